@@ -1,0 +1,11 @@
+pub mod Lawful
+pub mod Sides
+pub mod LeafLaws
+pub mod ShapeLaws
+pub mod Chains
+pub mod Slices
+pub mod Prefix
+pub mod LeafFeed
+pub mod ShapeFeed
+pub mod Tables
+pub mod BankShapes

@@ -1,0 +1,13 @@
+pub mod Compare
+pub mod Terms
+pub mod Orders
+pub mod Kinds
+pub mod Shape
+pub mod Fold
+pub mod Formed
+pub mod Feed
+pub mod Bank
+pub mod Hashers
+pub mod Laws
+pub mod Refusals
+pub mod Checks

@@ -1,0 +1,52 @@
+// Why a call is turned down.
+ghost use mathlib.Core.Path.{_≡_};
+ghost use Rattle.terms.specs.Refusals.{number};
+
+/// A type whose name, where it has one, is read in a bank: the number is of the node whose leaf has the name.
+#[derive(Clone, Copy)]
+pub enum TypePlace {
+    Bool,
+    Long,
+    String,
+    Set,
+    Record,
+    Entity(u32),
+    Extension(u32),
+}
+
+/// The table of refusals, and want of memory, which has no number in it.
+#[derive(Clone, Copy)]
+pub enum Refusal {
+    Node,
+    Leaf,
+    Text,
+    Key,
+    Answer,
+    Type {
+        expected: TypePlace,
+        actual: TypePlace,
+    },
+    Size,
+    Room,
+    Memory,
+}
+
+impl Refusal {
+    /// The refusal's number in the table.
+    pub fn number(self) -> Option<u8>
+        ensures { λ r. ⌜ r ≡ number self ⌝ }
+    {
+        match self {
+            Refusal::Node => Some(1),
+            Refusal::Leaf => Some(2),
+            Refusal::Text => Some(3),
+            Refusal::Key => Some(4),
+            Refusal::Answer => Some(5),
+            Refusal::Type { .. } => Some(6),
+            Refusal::Size => Some(7),
+            Refusal::Room => Some(8),
+            Refusal::Memory => None,
+        }
+    }
+
+}
