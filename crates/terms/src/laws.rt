@@ -38,5 +38,9 @@ pub fn check_node(number: u32, count: u32) -> Result<(), Refusal>
     ensures value { λ r. ⌜ r ≡ known number count ⌝ }
     ensures shapes { λ _. ⌜ BankLaws ⌝ }
 {
-    if number < count { Ok(()) } else { Err(Refusal::Node) }
+    if number < count {
+        Ok(())
+    } else {
+        Err(Refusal::Node)
+    }
 }

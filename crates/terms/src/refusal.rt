@@ -48,5 +48,4 @@ impl Refusal {
             Refusal::Memory => None,
         }
     }
-
 }

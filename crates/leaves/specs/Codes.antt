@@ -1,0 +1,115 @@
+-- The numbers of kinds, variables, slots, operators and types.
+use mathlib.Core.List.{List, [], _∷_}
+use mathlib.Core.Bool.{cond}
+use Prim.Native.Nat.{ℕ}
+use lib.Dec.{eqb}
+use Rattle.std.specs.declared.option.Option.{Option}
+use Rattle.std.specs.declared.option.Option.the-variants.{None, Some}
+use Rattle.std.specs.declared.result.Result.{Result}
+use Rattle.std.specs.declared.result.Result.the-variants.{Ok, Err}
+use Rattle.terms.specs.Kinds as model
+use Rattle.terms.specs.declared.refusal.Refusal.{Refusal}
+use Rattle.terms.specs.declared.refusal.Refusal.the-variants as refusal
+use Rattle.leaves.specs.declared.kind.Kind.{Kind}
+use Rattle.leaves.specs.declared.kind.Kind.the-variants as kind
+use Rattle.leaves.specs.declared.kind.Children.{Children}
+use Rattle.leaves.specs.declared.kind.Children.the-variants as children
+use Rattle.leaves.specs.declared.var.Var.{Var}
+use Rattle.leaves.specs.declared.var.Var.the-variants as var
+use Rattle.leaves.specs.declared.var.SlotId.{SlotId}
+use Rattle.leaves.specs.declared.var.SlotId.the-variants as slot
+use Rattle.leaves.specs.declared.ops.UnaryOp.{UnaryOp}
+use Rattle.leaves.specs.declared.ops.UnaryOp.the-variants as unary
+use Rattle.leaves.specs.declared.ops.BinaryOp.{BinaryOp}
+use Rattle.leaves.specs.declared.ops.BinaryOp.the-variants as binary
+use Rattle.leaves.specs.declared.name.Name.{Name}
+use Rattle.leaves.specs.declared.types.Type.{«Type»}
+use Rattle.leaves.specs.declared.types.Type.the-variants as type
+
+-- the one of the cases that has the number n, and refusal 2 where none has it
+abbrev pub from-code : {A : Type 0} → (A → ℕ) → List A → ℕ → Result A Refusal
+from-code code [] n = Err refusal.Leaf
+from-code code (x ∷ xs) n = cond (eqb (code x) n) (Ok x) (from-code code xs n)
+
+abbrev pub kind-code : Kind → ℕ
+kind-code kind.Lit = 0
+kind-code kind.Var = 1
+kind-code kind.Slot = 2
+kind-code kind.Unknown = 3
+kind-code kind.If = 4
+kind-code kind.And = 5
+kind-code kind.Or = 6
+kind-code kind.UnaryApp = 7
+kind-code kind.BinaryApp = 8
+kind-code kind.ExtensionFunctionApp = 9
+kind-code kind.GetAttr = 10
+kind-code kind.HasAttr = 11
+kind-code kind.ExtHasAttr = 12
+kind-code kind.Like = 13
+kind-code kind.Set = 14
+kind-code kind.Record = 15
+kind-code kind.Is = 16
+
+abbrev pub all-kinds : List Kind
+all-kinds = kind.Lit ∷ kind.Var ∷ kind.Slot ∷ kind.Unknown ∷ kind.If ∷ kind.And ∷ kind.Or ∷ kind.UnaryApp ∷ kind.BinaryApp ∷ kind.ExtensionFunctionApp ∷ kind.GetAttr ∷ kind.HasAttr ∷ kind.ExtHasAttr ∷ kind.Like ∷ kind.Set ∷ kind.Record ∷ kind.Is ∷ []
+
+-- children, as the table of the definitions has them
+abbrev pub children-of : Children → model.Children
+children-of (children.Exactly n) = model.exactly n
+children-of children.Many = model.many
+children-of children.Keyed = model.keyed
+
+abbrev pub var-code : Var → ℕ
+var-code var.Principal = 0
+var-code var.Action = 1
+var-code var.Resource = 2
+var-code var.Context = 3
+
+abbrev pub all-vars : List Var
+all-vars = var.Principal ∷ var.Action ∷ var.Resource ∷ var.Context ∷ []
+
+abbrev pub slot-code : SlotId → ℕ
+slot-code slot.Principal = 0
+slot-code slot.Resource = 1
+
+abbrev pub all-slots : List SlotId
+all-slots = slot.Principal ∷ slot.Resource ∷ []
+
+abbrev pub unary-code : UnaryOp → ℕ
+unary-code unary.Not = 0
+unary-code unary.Neg = 1
+unary-code unary.IsEmpty = 2
+
+abbrev pub all-unary : List UnaryOp
+all-unary = unary.Not ∷ unary.Neg ∷ unary.IsEmpty ∷ []
+
+abbrev pub binary-code : BinaryOp → ℕ
+binary-code binary.Eq = 0
+binary-code binary.Less = 1
+binary-code binary.LessEq = 2
+binary-code binary.Add = 3
+binary-code binary.Sub = 4
+binary-code binary.Mul = 5
+binary-code binary.In = 6
+binary-code binary.Contains = 7
+binary-code binary.ContainsAll = 8
+binary-code binary.ContainsAny = 9
+binary-code binary.GetTag = 10
+binary-code binary.HasTag = 11
+
+abbrev pub all-binary : List BinaryOp
+all-binary = binary.Eq ∷ binary.Less ∷ binary.LessEq ∷ binary.Add ∷ binary.Sub ∷ binary.Mul ∷ binary.In ∷ binary.Contains ∷ binary.ContainsAll ∷ binary.ContainsAny ∷ binary.GetTag ∷ binary.HasTag ∷ []
+
+abbrev pub type-code : «Type» → ℕ
+type-code type.Bool = 0
+type-code type.Long = 1
+type-code type.String = 2
+type-code type.Set = 3
+type-code type.Record = 4
+type-code (type.Entity n) = 5
+type-code (type.Extension n) = 6
+
+-- the type that has the number, among those without a name or those with this one
+abbrev pub type-from-code : ℕ → Option Name → Result «Type» Refusal
+type-from-code c None = from-code type-code (type.Bool ∷ type.Long ∷ type.String ∷ type.Set ∷ type.Record ∷ []) c
+type-from-code c (Some n) = from-code type-code (type.Entity n ∷ type.Extension n ∷ []) c
