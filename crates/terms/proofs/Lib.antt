@@ -3,7 +3,6 @@ pub mod Sides
 pub mod LeafLaws
 pub mod ShapeLaws
 pub mod Chains
-pub mod Slices
 pub mod Prefix
 pub mod LeafFeed
 pub mod ShapeFeed
