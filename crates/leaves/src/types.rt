@@ -1,6 +1,8 @@
 // Types.
 ghost use mathlib.Core.Path.{_≡_};
+ghost use Rattle.std.specs.Options.{mapped};
 ghost use Rattle.leaves.specs.Codes.{type-code, type-from-code};
+ghost use Rattle.leaves.specs.Values.{name-of, type-name};
 use crate::name::Name;
 use terms::refusal::Refusal;
 
@@ -29,6 +31,16 @@ impl<'a> Type<'a> {
             Type::Record => 4,
             Type::Entity(_) => 5,
             Type::Extension(_) => 6,
+        }
+    }
+
+    /// The name that the type has, if any.
+    pub fn name(self) -> Option<Name<'a>>
+        ensures { λ r. ⌜ mapped name-of r ≡ type-name (self .entry) ⌝ }
+    {
+        match self {
+            Type::Entity(name) | Type::Extension(name) => Some(name),
+            _ => None,
         }
     }
 

@@ -2,7 +2,6 @@ pub mod Lawful
 pub mod Sides
 pub mod LeafLaws
 pub mod ShapeLaws
-pub mod Chains
 pub mod Prefix
 pub mod LeafFeed
 pub mod ShapeFeed

@@ -10,4 +10,3 @@ pub mod Bank
 pub mod Hashers
 pub mod Laws
 pub mod Refusals
-pub mod Checks

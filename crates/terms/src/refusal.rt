@@ -1,6 +1,6 @@
 // Why a call is turned down.
 ghost use mathlib.Core.Path.{_≡_};
-ghost use Rattle.terms.specs.Refusals.{number};
+ghost use Rattle.terms.specs.Refusals.{number, known};
 
 /// A type whose name, where it has one, is read in a bank: the number is of the node whose leaf has the name.
 #[derive(Clone, Copy)]
@@ -47,5 +47,16 @@ impl Refusal {
             Refusal::Room => Some(8),
             Refusal::Memory => None,
         }
+    }
+}
+
+/// Refusal 1 unless a node's number is below the count.
+pub fn check_node(number: u32, count: u32) -> Result<(), Refusal>
+    ensures { λ r. ⌜ r ≡ known number count ⌝ }
+{
+    if number < count {
+        Ok(())
+    } else {
+        Err(Refusal::Node)
     }
 }
