@@ -1,15 +1,7 @@
--- The numbers of kinds, variables, slots, operators and types.
+-- The numbers of kinds, variables, slots and operators.
 use mathlib.Core.List.{List, [], _∷_}
-use mathlib.Core.Bool.{cond}
 use Prim.Native.Nat.{ℕ}
-use lib.Dec.{eqb}
-use Rattle.std.specs.declared.option.Option.{Option}
-use Rattle.std.specs.declared.option.Option.the-variants.{None, Some}
-use Rattle.std.specs.declared.result.Result.{Result}
-use Rattle.std.specs.declared.result.Result.the-variants.{Ok, Err}
 use Rattle.terms.specs.Kinds as model
-use Rattle.terms.specs.declared.refusal.Refusal.{Refusal}
-use Rattle.terms.specs.declared.refusal.Refusal.the-variants as refusal
 use Rattle.leaves.specs.declared.kind.Kind.{Kind}
 use Rattle.leaves.specs.declared.kind.Kind.the-variants as kind
 use Rattle.leaves.specs.declared.kind.Children.{Children}
@@ -22,14 +14,6 @@ use Rattle.leaves.specs.declared.ops.UnaryOp.{UnaryOp}
 use Rattle.leaves.specs.declared.ops.UnaryOp.the-variants as unary
 use Rattle.leaves.specs.declared.ops.BinaryOp.{BinaryOp}
 use Rattle.leaves.specs.declared.ops.BinaryOp.the-variants as binary
-use Rattle.leaves.specs.declared.name.Name.{Name}
-use Rattle.leaves.specs.declared.types.Type.{«Type»}
-use Rattle.leaves.specs.declared.types.Type.the-variants as type
-
--- the one of the cases that has the number n, and refusal 2 where none has it
-abbrev pub from-code : {A : Type 0} → (A → ℕ) → List A → ℕ → Result A Refusal
-from-code code [] n = Err refusal.Leaf
-from-code code (x ∷ xs) n = cond (eqb (code x) n) (Ok x) (from-code code xs n)
 
 abbrev pub kind-code : Kind → ℕ
 kind-code kind.Lit = 0
@@ -99,17 +83,3 @@ binary-code binary.HasTag = 11
 
 abbrev pub all-binary : List BinaryOp
 all-binary = binary.Eq ∷ binary.Less ∷ binary.LessEq ∷ binary.Add ∷ binary.Sub ∷ binary.Mul ∷ binary.In ∷ binary.Contains ∷ binary.ContainsAll ∷ binary.ContainsAny ∷ binary.GetTag ∷ binary.HasTag ∷ []
-
-abbrev pub type-code : «Type» → ℕ
-type-code type.Bool = 0
-type-code type.Long = 1
-type-code type.String = 2
-type-code type.Set = 3
-type-code type.Record = 4
-type-code (type.Entity n) = 5
-type-code (type.Extension n) = 6
-
--- the type that has the number, among those without a name or those with this one
-abbrev pub type-from-code : ℕ → Option Name → Result «Type» Refusal
-type-from-code c None = from-code type-code (type.Bool ∷ type.Long ∷ type.String ∷ type.Set ∷ type.Record ∷ []) c
-type-from-code c (Some n) = from-code type-code (type.Entity n ∷ type.Extension n ∷ []) c

@@ -1,7 +1,8 @@
 // The seventeen kinds of nodes, in one table.
 ghost use mathlib.Core.Path.{_≡_};
 ghost use Rattle.terms.specs.Kinds.{kind};
-ghost use Rattle.leaves.specs.Codes.{from-code, kind-code, all-kinds, children-of};
+ghost use Rattle.terms.specs.Codes.{from-code};
+ghost use Rattle.leaves.specs.Codes.{kind-code, all-kinds, children-of};
 use terms::refusal::Refusal;
 
 /// What a node is.

@@ -1,8 +1,8 @@
-//! The plain values of a condition tree: kinds, variables, slots, operators, types, names, literals and patterns.
+//! The plain values of a condition tree: kinds, variables, slots, operators, names, literals, unknowns and patterns.
 pub mod kind;
 pub mod literal;
 pub mod name;
 pub mod ops;
 pub mod pattern;
-pub mod types;
+pub mod text_list;
 pub mod var;

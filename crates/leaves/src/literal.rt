@@ -1,19 +1,19 @@
-// Literals and unknowns.
-use crate::name::Name;
-use crate::types::Type;
+// Literals and unknowns. `T` is how a text is given and `N` how a name is.
+use terms::types::Type;
+use terms::types::TypeClone;
 
-/// A literal, with its texts beside it.
+/// A literal.
 #[derive(Clone, Copy)]
-pub enum Literal<'a> {
+pub enum Literal<T, N> {
     Bool(bool),
     Long(i64),
-    String(&'a [u8]),
-    Entity(Name<'a>, &'a [u8]),
+    String(T),
+    Entity(N, T),
 }
 
 /// A blank of a condition: its name, and the type of what is to fill it, if it has one.
 #[derive(Clone, Copy)]
-pub struct Unknown<'a> {
-    pub name: &'a [u8],
-    pub type_annotation: Option<Type<'a>>,
+pub struct Unknown<T, N> {
+    pub name: T,
+    pub type_annotation: Option<Type<N>>,
 }

@@ -1,6 +1,7 @@
 // Variables and slots, and the words for them.
 ghost use mathlib.Core.Path.{_≡_};
-ghost use Rattle.leaves.specs.Codes.{from-code, var-code, all-vars, slot-code, all-slots};
+ghost use Rattle.terms.specs.Codes.{from-code};
+ghost use Rattle.leaves.specs.Codes.{var-code, all-vars, slot-code, all-slots};
 ghost use Rattle.leaves.specs.Words.{from-word, var-word, slot-word};
 use terms::refusal::Refusal;
 

@@ -1,14 +1,18 @@
 -- The order of two lists that are taken apart as first member and rest.
 use mathlib.Core.Path.{_≡_, refl, sym, ap, _∙_}
 use mathlib.Core.List.{List, [], _∷_, map}
-use Prim.Native.Nat.{ℕ, _-_, _≤_, _<_}
+use Prim.Native.Nat.{ℕ, zero, suc, _+_, _-_, _≤_, _<_}
+use native.Mathlib.Numerals.{add-one}
 use native.Mathlib.Omega.{arith}
 use lib.ListN.{length, getD, take, drop}
 use lib.Seq.{take-all}
+use Rattle.std.proofs.shelf.Lists.{drop-all}
+use Rattle.std.specs.Finite.{nth}
+use Rattle.std.specs.declared.option.Option.the-variants.{None}
 use Rattle.std.specs.Orderings.{thenBy}
 use Rattle.std.specs.declared.cmp.Ordering.{Ordering}
 use Rattle.std.specs.declared.cmp.Ordering.the-variants.{Less, Equal, Greater}
-use Rattle.terms.specs.Compare.{Order, list-order, by}
+use Rattle.terms.specs.Compare.{Order, list-order, option-order, by}
 
 -- what stands behind the first member, as the code takes it
 abbrev pub rest : {A : Type 0} → List A → List A
@@ -45,3 +49,47 @@ order-map f o [] [] = refl
 order-map f o [] (y ∷ ys) = refl
 order-map f o (x ∷ xs) [] = refl
 order-map f o (x ∷ xs) (y ∷ ys) = ap (thenBy (o (f x) (f y))) (order-map f o xs ys)
+
+-- ---- lists that a loop goes through together
+
+module _ {A : Type 0} (o : Order A) where
+  none-left : (ys : List A) (i : ℕ) → list-order o [] (drop i ys) ≡ thenBy (option-order o None (nth ys i)) (list-order o [] (drop (suc i) ys))
+  none-left [] zero = refl
+  none-left [] (suc i) = refl
+  none-left (y ∷ ys) zero = refl
+  none-left (y ∷ ys) (suc i) = none-left ys i
+
+  none-right : (xs : List A) (i : ℕ) → list-order o (drop i xs) [] ≡ thenBy (option-order o (nth xs i) None) (list-order o (drop (suc i) xs) [])
+  none-right [] zero = refl
+  none-right [] (suc i) = refl
+  none-right (x ∷ xs) zero = refl
+  none-right (x ∷ xs) (suc i) = none-right xs i
+
+  -- the members at a place, and then what is left
+  by-place : (xs ys : List A) (i : ℕ) → list-order o (drop i xs) (drop i ys) ≡ thenBy (option-order o (nth xs i) (nth ys i)) (list-order o (drop (suc i) xs) (drop (suc i) ys))
+  by-place [] [] zero = refl
+  by-place [] [] (suc i) = refl
+  by-place [] (y ∷ ys) zero = refl
+  by-place [] (y ∷ ys) (suc i) = none-left ys i
+  by-place (x ∷ xs) [] zero = refl
+  by-place (x ∷ xs) [] (suc i) = none-right xs i
+  by-place (x ∷ xs) (y ∷ ys) zero = refl
+  by-place (x ∷ xs) (y ∷ ys) (suc i) = by-place xs ys i
+
+  stops : (r v : Ordering) → (r ≡ Equal → ⊥) → r ≡ thenBy r v
+  stops Less v h = refl
+  stops Equal v h = absurd (h refl)
+  stops Greater v h = refl
+
+  pub place-stops : (xs ys : List A) (i : ℕ) (r : Ordering) → r ≡ option-order o (nth xs i) (nth ys i) → (r ≡ Equal → ⊥) → r ≡ list-order o (drop i xs) (drop i ys)
+  place-stops xs ys i r e h =
+      let rest = list-order o (drop (suc i) xs) (drop (suc i) ys) in
+      stops r rest h ∙ ap (λ u. thenBy u rest) e ∙ sym (by-place xs ys i)
+
+  pub place-goes : (xs ys : List A) (i : ℕ) → Equal ≡ option-order o (nth xs i) (nth ys i) → list-order o (drop (i + 1) xs) (drop (i + 1) ys) ≡ list-order o (drop i xs) (drop i ys)
+  place-goes xs ys i e =
+      let rest = list-order o (drop (suc i) xs) (drop (suc i) ys) in
+      ap (λ k. list-order o (drop k xs) (drop k ys)) (add-one i) ∙ ap (λ u. thenBy u rest) e ∙ sym (by-place xs ys i)
+
+  pub place-ends : (xs ys : List A) (i : ℕ) → length xs ≤ i → length ys ≤ i → Equal ≡ list-order o (drop i xs) (drop i ys)
+  place-ends xs ys i h k = sym ((λ j. list-order o (drop-all i xs h j) (drop-all i ys k j)))

@@ -4,11 +4,12 @@ ghost use Rattle.terms.specs.Orders.{literal-order};
 ghost use Rattle.leaves.specs.Values.{literal-of};
 use crate::name::compare_name;
 use crate::text::compare_text;
+use leaves::name::Name;
 use leaves::literal::Literal;
 use std::cmp::Ordering;
 
 /// Literals by their case, and then by what they hold; Longs as signed numbers.
-pub fn compare_literal(a: Literal, b: Literal) -> Ordering
+pub fn compare_literal(a: Literal<&[u8], Name>, b: Literal<&[u8], Name>) -> Ordering
     ensures { λ r. ⌜ r ≡ literal-order (literal-of (a .entry)) (literal-of (b .entry)) ⌝ }
 {
     match (a, b) {

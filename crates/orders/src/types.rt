@@ -6,11 +6,11 @@ ghost use Rattle.terms.specs.Orders.{name-order, type-order};
 ghost use Rattle.leaves.specs.Values.{name-of, type-of};
 use crate::name::compare_name;
 use leaves::name::Name;
-use leaves::types::Type;
+use terms::types::Type;
 use std::cmp::Ordering;
 
 /// Types by their codes, and then by their names.
-pub fn compare_type(a: Type, b: Type) -> Ordering
+pub fn compare_type(a: Type<Name>, b: Type<Name>) -> Ordering
     ensures { λ r. ⌜ r ≡ type-order (type-of (a .entry)) (type-of (b .entry)) ⌝ }
 {
     match a.code().cmp(&b.code()) {

@@ -6,12 +6,13 @@ ghost use Rattle.terms.specs.Orders.{text-order, type-order};
 ghost use Rattle.leaves.specs.Values.{type-of, unknown-of};
 use crate::text::compare_text;
 use crate::types::compare_type;
+use leaves::name::Name;
 use leaves::literal::Unknown;
-use leaves::types::Type;
+use terms::types::Type;
 use std::cmp::Ordering;
 
 /// Unknowns by their names, and then by their types.
-pub fn compare_unknown(a: Unknown, b: Unknown) -> Ordering
+pub fn compare_unknown(a: Unknown<&[u8], Name>, b: Unknown<&[u8], Name>) -> Ordering
     ensures { λ r. ⌜ r ≡ pair-order text-order (option-order type-order) (unknown-of (a .entry)) (unknown-of (b .entry)) ⌝ }
 {
     match compare_text(a.name, b.name) {
@@ -21,7 +22,7 @@ pub fn compare_unknown(a: Unknown, b: Unknown) -> Ordering
 }
 
 // No type is least.
-fn compare_types(a: Option<Type>, b: Option<Type>) -> Ordering
+fn compare_types(a: Option<Type<Name>>, b: Option<Type<Name>>) -> Ordering
     ensures { λ r. ⌜ r ≡ option-order type-order (mapped type-of (a .entry)) (mapped type-of (b .entry)) ⌝ }
 {
     match (a, b) {

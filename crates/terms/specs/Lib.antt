@@ -10,3 +10,4 @@ pub mod Bank
 pub mod Hashers
 pub mod Laws
 pub mod Refusals
+pub mod Codes

@@ -1,3 +1,4 @@
-//! Condition trees as values: the definitions that every contract cites (in specs/), their laws, and the refusals.
+//! Condition trees as values: the definitions that every contract cites (in specs/), their laws, types and refusals.
 pub mod laws;
 pub mod refusal;
+pub mod types;

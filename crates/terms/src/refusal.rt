@@ -1,20 +1,10 @@
 // Why a call is turned down.
 ghost use mathlib.Core.Path.{_≡_};
 ghost use Rattle.terms.specs.Refusals.{number, known};
+use crate::types::Type;
 
-/// A type whose name, where it has one, is read in a bank: the number is of the node whose leaf has the name.
-#[derive(Clone, Copy)]
-pub enum TypePlace {
-    Bool,
-    Long,
-    String,
-    Set,
-    Record,
-    Entity(u32),
-    Extension(u32),
-}
-
-/// The table of refusals, and want of memory, which has no number in it.
+/// The table of refusals, and want of memory, which has no number in it. A type's name is read in the bank: at the node of
+/// that number, whose leaf has it.
 #[derive(Clone, Copy)]
 pub enum Refusal {
     Node,
@@ -23,8 +13,8 @@ pub enum Refusal {
     Key,
     Answer,
     Type {
-        expected: TypePlace,
-        actual: TypePlace,
+        expected: Type<u32>,
+        actual: Type<u32>,
     },
     Size,
     Room,

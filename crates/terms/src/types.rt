@@ -1,27 +1,24 @@
 // Types.
 ghost use mathlib.Core.Path.{_≡_};
-ghost use Rattle.std.specs.Options.{mapped};
-ghost use Rattle.leaves.specs.Codes.{type-code, type-from-code};
-ghost use Rattle.leaves.specs.Values.{name-of, type-name};
-use crate::name::Name;
-use terms::refusal::Refusal;
+ghost use Rattle.terms.specs.Codes.{type-code, type-name, type-from-code};
+use crate::refusal::Refusal;
 
-/// The types of values; entities and extension values have a name.
+/// The types of values. `N` is how the name of an entity or extension type is given.
 #[derive(Clone, Copy)]
-pub enum Type<'a> {
+pub enum Type<N> {
     Bool,
     Long,
     String,
     Set,
     Record,
-    Entity(Name<'a>),
-    Extension(Name<'a>),
+    Entity(N),
+    Extension(N),
 }
 
-impl<'a> Type<'a> {
+impl<N: Copy> Type<N> {
     /// The type's number.
     pub fn code(self) -> u8
-        ensures { λ r. ⌜ r ≡ type-code (self .entry) ⌝ }
+        ensures { λ r. ⌜ r ≡ type-code self ⌝ }
     {
         match self {
             Type::Bool => 0,
@@ -34,9 +31,9 @@ impl<'a> Type<'a> {
         }
     }
 
-    /// The name that the type has, if any.
-    pub fn name(self) -> Option<Name<'a>>
-        ensures { λ r. ⌜ mapped name-of r ≡ type-name (self .entry) ⌝ }
+    /// The type's name, if it has one.
+    pub fn name(self) -> Option<N>
+        ensures { λ r. ⌜ r ≡ type-name self ⌝ }
     {
         match self {
             Type::Entity(name) | Type::Extension(name) => Some(name),
@@ -45,8 +42,8 @@ impl<'a> Type<'a> {
     }
 
     /// The type of a number, with a name exactly at 5 and 6; or refusal 2.
-    pub fn from_code(code: u8, name: Option<Name<'a>>) -> Result<Type<'a>, Refusal>
-        ensures { λ r. ⌜ r ≡ type-from-code code (name .entry) ⌝ }
+    pub fn from_code(code: u8, name: Option<N>) -> Result<Type<N>, Refusal>
+        ensures { λ r. ⌜ r ≡ type-from-code code name ⌝ }
     {
         match (code, name) {
             (0, None) => Ok(Type::Bool),
