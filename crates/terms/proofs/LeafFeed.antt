@@ -19,7 +19,7 @@ use Rattle.terms.specs.Orders.{name-parts, literal-side, elem-side, LeafSides,
 use Rattle.terms.specs.Kinds.{sort}
 use Rattle.terms.specs.Laws.{Apart}
 use Rattle.terms.specs.Formed.{All, TextOk, NameOk, LiteralOk, TypeOk, ElemOk, LeafOk}
-use Rattle.terms.specs.Feed.{bytes, feed-text, feed-list, feed-name, bit, feed-literal, feed-any, feed-type, feed-elem, feed-leaf}
+use Rattle.terms.specs.Feed.{bytes, feed-text, feed-list, feed-name, bit, feed-literal, feed-maybe, feed-type, feed-elem, feed-leaf}
 use Rattle.terms.proofs.Sides.{literal-of, literal-back, elem-of, elem-back, leaf-of, leaf-back}
 use Rattle.terms.proofs.Prefix.{Code, Placed, head-same, tail-same, byte, words, pair-code, list-code, text-code, none-code, side-place, last-side, side, tagged, through, placed-through, narrower, option-side, maybe-code, option-code}
 
@@ -77,8 +77,8 @@ elems =
 
 -- ---- types: the code says whether a name follows
 
-any-name : Placed (λ o. side-place (λ (n : NameS). 0) (option-side o)) (λ o. Cases o (Unit {0}) NameOk) feed-any
-any-name = maybe-code names feed-any refl (λ n. refl)
+any-name : Placed (λ o. side-place (λ (n : NameS). 0) (option-side o)) (λ o. Cases o (Unit {0}) NameOk) (feed-maybe feed-name)
+any-name = maybe-code names (feed-maybe feed-name) refl (λ n. refl)
 
 same-place : (o p : Option NameS) → isSome o ≡ isSome p → side-place (λ (n : NameS). 0) (option-side o) ≡ side-place (λ (n : NameS). 0) (option-side p)
 same-place None None e = refl
@@ -88,8 +88,8 @@ same-place (Some x) (Some y) e = refl
 
 type-reads : Apart TypeOk feed-type
 type-reads x y p q r s e =
-    let c = head-same (x .code) (y .code) (feed-any (x .name) ++ r) (feed-any (y .name) ++ s) e in
-    let n = any-name .reads (x .name) (y .name) (same-place (x .name) (y .name) (p .1 ∙ ap (leb 5) c ∙ sym (q .1))) (p .2) (q .2) r s (tail-same (x .code) (y .code) (feed-any (x .name) ++ r) (feed-any (y .name) ++ s) e) in
+    let c = head-same (x .code) (y .code) (feed-maybe feed-name (x .name) ++ r) (feed-maybe feed-name (y .name) ++ s) e in
+    let n = any-name .reads (x .name) (y .name) (same-place (x .name) (y .name) (p .1 ∙ ap (leb 5) c ∙ sym (q .1))) (p .2) (q .2) r s (tail-same (x .code) (y .code) (feed-maybe feed-name (x .name) ++ r) (feed-maybe feed-name (y .name) ++ s) e) in
     (λ i. record { code = c i; name = n .0 i }, n .1)
 
 pub types : Code TypeOk feed-type

@@ -53,14 +53,14 @@ feed-literal (LiteralS.long z) = 1 ∷ bytes 8 (ofZ w64 z)
 feed-literal (LiteralS.string t) = 2 ∷ feed-text t
 feed-literal (LiteralS.entity n t) = 3 ∷ (feed-name n ++ feed-text t)
 
--- the name if any: the code says whether there is one
-abbrev pub feed-any : Option NameS → List ℕ
-feed-any None = []
-feed-any (Some n) = feed-name n
+-- a value bare, where something else says whether there is one
+abbrev pub feed-maybe : {A : Type 0} → (A → List ℕ) → Option A → List ℕ
+feed-maybe f None = []
+feed-maybe f (Some x) = f x
 
 -- its code, and the name if any
 abbrev pub feed-type : TypeS → List ℕ
-feed-type t = t .code ∷ feed-any (t .name)
+feed-type t = t .code ∷ feed-maybe feed-name (t .name)
 
 -- 0 for nothing, 1 and the value
 abbrev pub feed-option : {A : Type 0} → (A → List ℕ) → Option A → List ℕ
