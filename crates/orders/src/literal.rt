@@ -4,8 +4,8 @@ ghost use Rattle.terms.specs.Orders.{literal-order};
 ghost use Rattle.leaves.specs.Values.{literal-of};
 use crate::name::compare_name;
 use crate::text::compare_text;
-use leaves::name::Name;
 use leaves::literal::Literal;
+use leaves::name::Name;
 use std::cmp::Ordering;
 
 /// Literals by their case, and then by what they hold; Longs as signed numbers.

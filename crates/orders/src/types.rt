@@ -6,8 +6,8 @@ ghost use Rattle.terms.specs.Orders.{name-order, type-order};
 ghost use Rattle.leaves.specs.Values.{name-of, type-of};
 use crate::name::compare_name;
 use leaves::name::Name;
-use terms::types::Type;
 use std::cmp::Ordering;
+use terms::types::Type;
 
 /// Types by their codes, and then by their names.
 pub fn compare_type(a: Type<Name>, b: Type<Name>) -> Ordering

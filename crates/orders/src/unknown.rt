@@ -6,10 +6,10 @@ ghost use Rattle.terms.specs.Orders.{text-order, type-order};
 ghost use Rattle.leaves.specs.Values.{type-of, unknown-of};
 use crate::text::compare_text;
 use crate::types::compare_type;
-use leaves::name::Name;
 use leaves::literal::Unknown;
-use terms::types::Type;
+use leaves::name::Name;
 use std::cmp::Ordering;
+use terms::types::Type;
 
 /// Unknowns by their names, and then by their types.
 pub fn compare_unknown(a: Unknown<&[u8], Name>, b: Unknown<&[u8], Name>) -> Ordering

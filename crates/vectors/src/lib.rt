@@ -1,22 +1,32 @@
-//! Published digests, and the bytes that values are fed as.
+//! Published digests, the bytes that leaves are fed as, and leaves in their order.
 
 #[cfg(test)]
 mod tests {
+    use feeds::write_literal;
+    use feeds::write_long;
+    use feeds::write_name;
+    use feeds::write_pattern;
+    use feeds::write_text;
+    use feeds::write_type;
+    use feeds::write_unknown;
     use hashers::fnv::fnv1a;
     use hashers::hasher::Hasher;
     use hashers::tape::Tape;
     use hashers::tape::TapeHasher;
-    use hashers::writes::write_literal;
-    use hashers::writes::write_long;
-    use hashers::writes::write_name;
-    use hashers::writes::write_pattern;
-    use hashers::writes::write_text;
-    use hashers::writes::write_type;
     use leaves::literal::Literal;
+    use leaves::literal::Unknown;
     use leaves::name::Name;
     use leaves::pattern::PatternElem;
-    use leaves::types::Type;
+    use leaves::text_list::Span;
+    use leaves::text_list::TextList;
+    use orders::literal::compare_literal;
+    use orders::name::compare_name;
+    use orders::pattern::compare_pattern;
+    use orders::text::compare_text;
+    use orders::texts::compare_texts;
+    use std::cmp::Ordering;
     use std::test::*;
+    use terms::types::Type;
 
     // Texts with their published digests.
     const DIGESTS: [(&[u8], u64); 10] = [
@@ -34,7 +44,7 @@ mod tests {
 
     const NAME: Name<'static> = Name {
         base: b"P",
-        namespaces: &[],
+        namespaces: TextList::Given(&[]),
     };
 
     #[test]
@@ -66,7 +76,7 @@ mod tests {
         let mut tape = Tape::new();
         let name = Name {
             base: b"P",
-            namespaces: &[b"N"],
+            namespaces: TextList::Given(&[b"N"]),
         };
         write_name(&mut tape, name);
         check_eq(
@@ -90,12 +100,18 @@ mod tests {
     #[test]
     fn marked_layouts() -> Result<(), Fail> {
         let mut tape = Tape::new();
-        write_type(&mut tape, Some(Type::Entity(NAME)));
-        write_type(&mut tape, None);
-        check_eq(
-            tape.bytes(),
-            b"\x01\x05\x01\0\0\0\0\0\0\0P\0\0\0\0\0\0\0\0\0",
-        )?;
+        write_type(&mut tape, Type::Entity(NAME));
+        write_type(&mut tape, Type::Set);
+        check_eq(tape.bytes(), b"\x05\x01\0\0\0\0\0\0\0P\0\0\0\0\0\0\0\0\x03")?;
+
+        let mut tape = Tape::new();
+        let name: &[u8] = b"p";
+        let unknown = Unknown {
+            name,
+            type_annotation: Some(Type::Long),
+        };
+        write_unknown(&mut tape, unknown);
+        check_eq(tape.bytes(), b"\x01\0\0\0\0\0\0\0p\x01\x01")?;
 
         let mut tape = Tape::new();
         write_literal(&mut tape, Literal::Bool(true));
@@ -112,5 +128,51 @@ mod tests {
             tape.bytes(),
             b"\x03\x01\0\0\0\0\0\0\0P\0\0\0\0\0\0\0\0\x01\0\0\0\0\0\0\0i",
         )
+    }
+
+    // Texts from the least to the greatest.
+    const TEXTS: [&[u8]; 6] = [b"", b"\0", b"a", b"ab", b"b", b"\xff"];
+
+    #[test]
+    fn texts_in_order() -> Result<(), Fail> {
+        for (i, a) in TEXTS.iter().enumerate() {
+            for (j, b) in TEXTS.iter().enumerate() {
+                check(matches_places(compare_text(a, b), i, j))?;
+            }
+        }
+        Ok(())
+    }
+
+    fn matches_places(answer: Ordering, i: usize, j: usize) -> bool {
+        match answer {
+            Ordering::Less => i < j,
+            Ordering::Equal => i == j,
+            Ordering::Greater => i > j,
+        }
+    }
+
+    #[test]
+    fn leaves_in_order() -> Result<(), Fail> {
+        check(compare_literal(Literal::Long(-1), Literal::Long(0)).is_lt())?;
+        check(compare_literal(Literal::Bool(true), Literal::Long(-9)).is_lt())?;
+        check(compare_literal(Literal::String(b"z"), Literal::Entity(NAME, b"")).is_lt())?;
+        let wildcard = [PatternElem::Wildcard];
+        let scalar = [PatternElem::Scalar(0x10FFFF), PatternElem::Scalar(0)];
+        check(compare_pattern(&scalar, &wildcard).is_lt())?;
+        check(compare_pattern(&[], &wildcard).is_lt())
+    }
+
+    // A list that is kept compares as the same list given.
+    #[test]
+    fn kept_as_given() -> Result<(), Fail> {
+        let spans = [Span { start: 2, len: 3 }, Span { start: 0, len: 2 }];
+        let kept = TextList::Kept(b"abcde", &spans);
+        check(compare_texts(kept, TextList::Given(&[b"cde", b"ab"])).is_eq())?;
+        check(compare_texts(kept, TextList::Given(&[b"cde"])).is_gt())?;
+        let name = Name {
+            base: b"P",
+            namespaces: kept,
+        };
+        check(compare_name(NAME, name).is_lt())
     }
 }
