@@ -2,18 +2,18 @@
 use mathlib.Core.List.{List, [], _∷_}
 use Prim.Native.Nat.{ℕ}
 use Rattle.terms.specs.Kinds as model
-use Rattle.leaves.specs.declared.kind.Kind.{Kind}
-use Rattle.leaves.specs.declared.kind.Kind.the-variants as kind
-use Rattle.leaves.specs.declared.kind.Children.{Children}
-use Rattle.leaves.specs.declared.kind.Children.the-variants as children
-use Rattle.leaves.specs.declared.var.Var.{Var}
-use Rattle.leaves.specs.declared.var.Var.the-variants as var
-use Rattle.leaves.specs.declared.var.SlotId.{SlotId}
-use Rattle.leaves.specs.declared.var.SlotId.the-variants as slot
-use Rattle.leaves.specs.declared.ops.UnaryOp.{UnaryOp}
-use Rattle.leaves.specs.declared.ops.UnaryOp.the-variants as unary
-use Rattle.leaves.specs.declared.ops.BinaryOp.{BinaryOp}
-use Rattle.leaves.specs.declared.ops.BinaryOp.the-variants as binary
+use Rattle.codes.specs.declared.kind.Kind.{Kind}
+use Rattle.codes.specs.declared.kind.Kind.the-variants as kind
+use Rattle.codes.specs.declared.kind.Children.{Children}
+use Rattle.codes.specs.declared.kind.Children.the-variants as children
+use Rattle.codes.specs.declared.var.Var.{Var}
+use Rattle.codes.specs.declared.var.Var.the-variants as var
+use Rattle.codes.specs.declared.var.SlotId.{SlotId}
+use Rattle.codes.specs.declared.var.SlotId.the-variants as slot
+use Rattle.codes.specs.declared.ops.UnaryOp.{UnaryOp}
+use Rattle.codes.specs.declared.ops.UnaryOp.the-variants as unary
+use Rattle.codes.specs.declared.ops.BinaryOp.{BinaryOp}
+use Rattle.codes.specs.declared.ops.BinaryOp.the-variants as binary
 
 abbrev pub kind-code : Kind → ℕ
 kind-code kind.Lit = 0

@@ -6,10 +6,10 @@ use lib.Chars.{codes}
 use Rattle.std.specs.shelf.Text.{sameBytes}
 use Rattle.std.specs.declared.option.Option.{Option}
 use Rattle.std.specs.declared.option.Option.the-variants.{None, Some}
-use Rattle.leaves.specs.declared.var.Var.{Var}
-use Rattle.leaves.specs.declared.var.Var.the-variants as var
-use Rattle.leaves.specs.declared.var.SlotId.{SlotId}
-use Rattle.leaves.specs.declared.var.SlotId.the-variants as slot
+use Rattle.codes.specs.declared.var.Var.{Var}
+use Rattle.codes.specs.declared.var.Var.the-variants as var
+use Rattle.codes.specs.declared.var.SlotId.{SlotId}
+use Rattle.codes.specs.declared.var.SlotId.the-variants as slot
 
 -- the one of the cases that has the word w
 abbrev pub from-word : {A : Type 0} → (A → List ℕ) → List A → List ℕ → Option A

@@ -2,7 +2,7 @@
 ghost use mathlib.Core.Path.{_≡_};
 ghost use Rattle.terms.specs.Kinds.{kind};
 ghost use Rattle.terms.specs.Codes.{from-code};
-ghost use Rattle.leaves.specs.Codes.{kind-code, all-kinds, children-of};
+ghost use Rattle.codes.specs.Codes.{kind-code, all-kinds, children-of};
 use terms::refusal::Refusal;
 
 /// What a node is.

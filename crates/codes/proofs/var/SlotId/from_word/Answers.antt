@@ -1,6 +1,6 @@
 use borrow.Author.Needs.{needs}
 use Rattle.std.proofs.shelf.Equals.{sameBytes-decides}
-use Rattle.leaves.proofs.var.SlotId.from_word.Needs as need
+use Rattle.codes.proofs.var.SlotId.from_word.Needs as need
 
 pub returns-in-rest : need.returns-in-rest
 returns-in-rest c = search (needs, sameBytes-decides)

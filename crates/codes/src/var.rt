@@ -1,8 +1,8 @@
 // Variables and slots, and the words for them.
 ghost use mathlib.Core.Path.{_≡_};
 ghost use Rattle.terms.specs.Codes.{from-code};
-ghost use Rattle.leaves.specs.Codes.{var-code, all-vars, slot-code, all-slots};
-ghost use Rattle.leaves.specs.Words.{from-word, var-word, slot-word};
+ghost use Rattle.codes.specs.Codes.{var-code, all-vars, slot-code, all-slots};
+ghost use Rattle.codes.specs.Words.{from-word, var-word, slot-word};
 use terms::refusal::Refusal;
 
 /// The variables of a condition.

@@ -1,7 +1,7 @@
 // The operators.
 ghost use mathlib.Core.Path.{_≡_};
 ghost use Rattle.terms.specs.Codes.{from-code};
-ghost use Rattle.leaves.specs.Codes.{unary-code, all-unary, binary-code, all-binary};
+ghost use Rattle.codes.specs.Codes.{unary-code, all-unary, binary-code, all-binary};
 use terms::refusal::Refusal;
 
 /// Operators on one expression.
