@@ -75,8 +75,8 @@ all-formed ss (n ∷ ns) f c h =
     let g : Formed (shape-of ss n) = (h .0, gather-formed ss (n .children) f (c .0)) in
     all-formed (ss ++ (shape-of ss n ∷ [])) ns (all-push ss (shape-of ss n) f g) (subst (λ b. ClosedFrom b ns) (sym k) (c .1)) (h .1)
 
-formed : (m : Bank) (i : ℕ) → Closed m → NodesOk m → i < length m → Formed (shape-at m i)
+pub formed : (m : Bank) (i : ℕ) → Closed m → NodesOk m → i < length m → Formed (shape-at m i)
 formed m i c h k = at-each (shapes m) i (all-formed [] m tt c h) (omega (arith, shapes-length m))
 
 pub bank-laws : BankLaws
-bank-laws = record { kept = kept; added = added; opened = opened; formed = formed }
+bank-laws = record { kept = kept; added = added; opened = opened }

@@ -7,3 +7,4 @@ pub mod LeafFeed
 pub mod ShapeFeed
 pub mod Tables
 pub mod BankShapes
+pub mod Layouts

@@ -7,7 +7,7 @@ use Rattle.std.specs.declared.option.Option.{Option}
 use Rattle.std.specs.declared.option.Option.the-variants.{None}
 use Rattle.terms.specs.Terms.{Text, Leaf}
 use Rattle.terms.specs.Shape.{Shape, node, Shapes, done, entry}
-use Rattle.terms.specs.Formed.{All, NodeOk, Formed}
+use Rattle.terms.specs.Formed.{All, NodeOk}
 
 -- where a node stands in a source
 pub record Loc : Type 0 where
@@ -86,5 +86,3 @@ pub record BankLaws : Type 0 where
   pub added : (m : Bank) (n : NodeM) → shape-at (m ++ (n ∷ [])) (length m) ≡ shape-of (shapes m) n
   -- the shape under a number is its node's, over the shapes of its children
   pub opened : (m : Bank) (i : ℕ) (d : NodeM) → Closed m → i < length m → shape-at m i ≡ shape-of (shapes m) (getD m i d)
-  -- the trees of a bank are well formed
-  pub formed : (m : Bank) (i : ℕ) → Closed m → NodesOk m → i < length m → Formed (shape-at m i)

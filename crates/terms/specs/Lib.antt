@@ -7,6 +7,7 @@ pub mod Fold
 pub mod Formed
 pub mod Feed
 pub mod Bank
+pub mod Layout
 pub mod Hashers
 pub mod Laws
 pub mod Refusals

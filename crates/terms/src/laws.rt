@@ -4,6 +4,7 @@ ghost use Rattle.terms.specs.Laws.{TotalOrder, Apart, Injective};
 ghost use Rattle.terms.specs.Formed.{Formed};
 ghost use Rattle.terms.specs.Feed.{feed};
 ghost use Rattle.terms.specs.Bank.{BankLaws};
+ghost use Rattle.terms.specs.Layout.{FormedLaws};
 
 /// The order of shapes is total.
 pub fn order_laws()
@@ -16,7 +17,12 @@ pub fn feed_laws()
     ensures injective { λ _. ⌜ Injective Formed feed ⌝ }
 {}
 
-/// Nodes that are added to a bank leave the shapes before them as they were, and every tree of a bank is well formed.
+/// Nodes that are added to a bank leave the shapes before them as they were.
 pub fn bank_laws()
     ensures { λ _. ⌜ BankLaws ⌝ }
+{}
+
+/// The well-formed shapes are exactly those that a bank can hold, room aside.
+pub fn formed_laws()
+    ensures { λ _. ⌜ FormedLaws ⌝ }
 {}
