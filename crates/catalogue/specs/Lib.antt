@@ -1,0 +1,5 @@
+pub mod Lines
+pub mod Placed
+pub mod Puts
+pub mod Ledgers
+pub mod Reports
