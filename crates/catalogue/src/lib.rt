@@ -1,6 +1,4 @@
-//! The attribute names of a catalogue: read from lines, put in order, each kept once, and reported with their digests.
+//! The attribute names of a catalogue: lines of bytes, and names in order, each once.
 pub mod entry;
-pub mod ledger;
 pub mod lines;
 pub mod names;
-pub mod report;

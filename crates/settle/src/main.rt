@@ -1,5 +1,5 @@
 //! Puts the attribute names of a catalogue in order, each once, with their digests.
-use catalogue::report::settle;
+use ledger::report::settle;
 use std::env;
 use std::fmt;
 use std::io;

@@ -1,0 +1,4 @@
+pub mod Noting
+pub mod Runs
+pub mod Writing
+pub mod Reporting
