@@ -1,15 +1,15 @@
 -- The texts of a vector of vectors, place by place.
-use mathlib.Core.Path.{_≡_, refl, sym, ap, subst, _∙_}
-use mathlib.Core.List.{List, [], _∷_, _++_, map}
+use mathlib.Core.Path.{_≡_, sym, ap, subst, _∙_}
+use mathlib.Core.List.{[], _∷_, _++_, map}
 use mathlib.Core.Bool.{Bool, true, false, cond}
-use Prim.Native.Nat.{ℕ, _≤_, _<_}
+use Prim.Native.Nat.{ℕ, _<_}
 use lib.ListN.{length, getD, take, drop}
 use Rattle.std.specs.Holes.{inserted}
 use Rattle.std.specs.Of.Vec.{vec-items, vec-len}
 use Rattle.std.specs.declared.alloc.Global.{Global}
 use Rattle.std.specs.declared.vec.Vec.{Vec}
 use Rattle.std.specs.declared.cmp.Ordering.{Ordering}
-use Rattle.std.proofs.shelf.Lists.{length-map, getD-map, getD-read-under, map-append, take-map, drop-map}
+use Rattle.std.proofs.shelf.Lists.{length-map, getD-map, map-append, take-map, drop-map}
 use Rattle.terms.specs.Terms.{Text}
 use Rattle.terms.specs.Orders.{text-order}
 use Rattle.catalogue.specs.Puts.{texts}

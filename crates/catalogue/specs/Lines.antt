@@ -5,10 +5,16 @@ use mathlib.Core.Logic.{_⊎_}
 use mathlib.Core.Bool.{cond}
 use Prim.Native.Nat.{ℕ}
 use lib.Dec.{eqb}
+use denote.Ref.{RefT, now}
+use Rattle.std.specs.Options.{mapped}
 use Rattle.std.specs.shelf.Lists.{All}
 use Rattle.std.specs.declared.option.Option.{Option}
 use Rattle.std.specs.declared.option.Option.the-variants.{None, Some}
 use Rattle.terms.specs.Terms.{Text}
+
+-- the bytes that two references point to
+abbrev pub both-parts : Option (RefT (List ℕ) × RefT (List ℕ)) → Option (Text × List ℕ)
+both-parts r = mapped (λ p. (now (p .0), now (p .1))) r
 
 -- the bytes before the first line feed
 abbrev pub first-line : List ℕ → Text

@@ -1,11 +1,11 @@
 -- What putting a name into a catalogue answers, and which names follow.
 use mathlib.Core.Path.{_≡_}
-use mathlib.Core.List.{List, map}
+use mathlib.Core.List.{List, [], map}
 use mathlib.Core.Logic.{_⊎_}
 use mathlib.Core.Bool.{true, false, cond}
-use Prim.Native.Nat.{ℕ, _≤_}
+use Prim.Native.Nat.{ℕ, _≤_, _<_}
 use lib.Dec.{ltb}
-use lib.ListN.{length}
+use lib.ListN.{length, getD}
 use Rattle.std.specs.Holes.{inserted}
 use Rattle.std.specs.Of.Vec.{vec-items}
 use Rattle.std.specs.declared.alloc.Global.{Global}
@@ -24,9 +24,9 @@ use Rattle.catalogue.specs.declared.entry.Entry.the-variants as entry
 abbrev pub texts : Vec (Vec ℕ Global) Global → List Text
 texts v = map vec-items (vec-items v)
 
--- what a search for a name gives: it stands, or is missing and would be placed at i
+-- what a search for a name gives: it stands at i, or is missing and would be placed at i
 abbrev pub Placing : List Text → Text → Result ℕ ℕ → Type 0
-Placing ns t (Ok i) = (stands text-order t ns ≡ true) × (placed text-order t ns ≡ ns)
+Placing ns t (Ok i) = (stands text-order t ns ≡ true) × (i < length ns) × (getD ns i [] ≡ t) × (placed text-order t ns ≡ ns)
 Placing ns t (Err i) = (stands text-order t ns ≡ false) × (i ≤ length ns) × (placed text-order t ns ≡ inserted ns i t)
 
 -- the answer where memory suffices

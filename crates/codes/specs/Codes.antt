@@ -15,6 +15,7 @@ use Rattle.codes.specs.declared.ops.UnaryOp.the-variants as unary
 use Rattle.codes.specs.declared.ops.BinaryOp.{BinaryOp}
 use Rattle.codes.specs.declared.ops.BinaryOp.the-variants as binary
 
+-- the kinds, by the numbers of the table
 abbrev pub kind-code : Kind → ℕ
 kind-code kind.Lit = 0
 kind-code kind.Var = 1
@@ -34,6 +35,7 @@ kind-code kind.Set = 14
 kind-code kind.Record = 15
 kind-code kind.Is = 16
 
+-- every kind
 abbrev pub all-kinds : List Kind
 all-kinds = kind.Lit ∷ kind.Var ∷ kind.Slot ∷ kind.Unknown ∷ kind.If ∷ kind.And ∷ kind.Or ∷ kind.UnaryApp ∷ kind.BinaryApp ∷ kind.ExtensionFunctionApp ∷ kind.GetAttr ∷ kind.HasAttr ∷ kind.ExtHasAttr ∷ kind.Like ∷ kind.Set ∷ kind.Record ∷ kind.Is ∷ []
 
@@ -43,30 +45,37 @@ children-of (children.Exactly n) = model.exactly n
 children-of children.Many = model.many
 children-of children.Keyed = model.keyed
 
+-- the variables, by their numbers
 abbrev pub var-code : Var → ℕ
 var-code var.Principal = 0
 var-code var.Action = 1
 var-code var.Resource = 2
 var-code var.Context = 3
 
+-- every variable
 abbrev pub all-vars : List Var
 all-vars = var.Principal ∷ var.Action ∷ var.Resource ∷ var.Context ∷ []
 
+-- the slots, by their numbers
 abbrev pub slot-code : SlotId → ℕ
 slot-code slot.Principal = 0
 slot-code slot.Resource = 1
 
+-- every slot
 abbrev pub all-slots : List SlotId
 all-slots = slot.Principal ∷ slot.Resource ∷ []
 
+-- the unary operators, by their numbers
 abbrev pub unary-code : UnaryOp → ℕ
 unary-code unary.Not = 0
 unary-code unary.Neg = 1
 unary-code unary.IsEmpty = 2
 
+-- every unary operator
 abbrev pub all-unary : List UnaryOp
 all-unary = unary.Not ∷ unary.Neg ∷ unary.IsEmpty ∷ []
 
+-- the binary operators, by their numbers
 abbrev pub binary-code : BinaryOp → ℕ
 binary-code binary.Eq = 0
 binary-code binary.Less = 1
@@ -81,5 +90,6 @@ binary-code binary.ContainsAny = 9
 binary-code binary.GetTag = 10
 binary-code binary.HasTag = 11
 
+-- every binary operator
 abbrev pub all-binary : List BinaryOp
 all-binary = binary.Eq ∷ binary.Less ∷ binary.LessEq ∷ binary.Add ∷ binary.Sub ∷ binary.Mul ∷ binary.In ∷ binary.Contains ∷ binary.ContainsAll ∷ binary.ContainsAny ∷ binary.GetTag ∷ binary.HasTag ∷ []

@@ -16,12 +16,14 @@ abbrev pub from-word : {A : Type 0} → (A → List ℕ) → List A → List ℕ
 from-word word [] w = None
 from-word word (x ∷ xs) w = cond (sameBytes w (word x)) (Some x) (from-word word xs w)
 
+-- the word for each variable
 abbrev pub var-word : Var → List ℕ
 var-word var.Principal = codes "principal"
 var-word var.Action = codes "action"
 var-word var.Resource = codes "resource"
 var-word var.Context = codes "context"
 
+-- the word for each slot
 abbrev pub slot-word : SlotId → List ℕ
 slot-word slot.Principal = codes "?principal"
 slot-word slot.Resource = codes "?resource"

@@ -1,7 +1,7 @@
 -- What one line more changes, by the answer of `put`.
 use mathlib.Core.Path.{_≡_, refl, sym, ap, subst, _∙_}
 use mathlib.Core.List.{List, [], _∷_, _++_, map}
-use mathlib.Core.Logic.{_⊎_, inl, inr}
+use mathlib.Core.Logic.{inl, inr}
 use mathlib.Core.Bool.{Bool, true, false, cond}
 use Prim.Native.Nat.{ℕ, _+_}
 use native.Mathlib.Omega.{arith}
@@ -20,7 +20,7 @@ use Rattle.terms.specs.declared.refusal.Refusal.{Refusal}
 use Rattle.terms.specs.declared.refusal.Refusal.the-variants as refusal
 use Rattle.terms.proofs.LeafLaws.{text-laws}
 use Rattle.catalogue.specs.Placed.{placed, stands}
-use Rattle.catalogue.specs.Puts.{texts, put-answer, put-names, Puts}
+use Rattle.catalogue.specs.Puts.{texts, put-names, Puts}
 use Rattle.ledger.specs.Ledgers.{LedgerS, long-of, too-long, again, noted}
 use Rattle.catalogue.specs.declared.entry.Entry.{Entry}
 use Rattle.catalogue.specs.declared.entry.Entry.the-variants as entry

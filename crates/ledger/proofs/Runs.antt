@@ -9,11 +9,11 @@ use lib.Dec.{ltb, eqb}
 use lib.ListN.{length}
 use Rattle.std.specs.declared.option.Option.{Option}
 use Rattle.std.specs.declared.option.Option.the-variants.{None, Some}
-use Rattle.std.proofs.shelf.Tests.{ltb-true, ltb-false, le-ltb, lt-ltb, cases-bool, cond-true, cond-false}
+use Rattle.std.proofs.shelf.Tests.{ltb-true, ltb-false}
 use Rattle.terms.specs.Terms.{Text}
 use Rattle.terms.specs.Orders.{text-order}
 use Rattle.terms.proofs.LeafLaws.{text-laws}
-use Rattle.catalogue.specs.Lines.{first-line, after-line, split-line, lines}
+use Rattle.catalogue.specs.Lines.{after-line, split-line, lines}
 use Rattle.catalogue.specs.Placed.{placed, Among}
 use Rattle.catalogue.specs.Puts.{put-names}
 use Rattle.ledger.specs.Ledgers.{LedgerS, blank, noted, noted-all, Exactly}

@@ -25,9 +25,11 @@ pub record LedgerS : Type 0 where
   pub read : ℕ
   pub repeated : ℕ
 
+-- a line refused, by its number and its length
 abbrev pub long-of : LongLine → ℕ × ℕ
 long-of l = (l .number, l .bytes)
 
+-- what a ledger of the code stands for
 abbrev pub ledger-of : Ledger → LedgerS
 ledger-of l = record { names = texts (l .catalogue .names); refused = map long-of (vec-items (l .refused)); read = l .read; repeated = l .repeated }
 

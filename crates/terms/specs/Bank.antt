@@ -34,6 +34,7 @@ Bank = List NodeM
 abbrev blank : NodeM
 blank = record { kind = 0; leaf = Leaf.bare; children = []; place = None }
 
+-- the node under a number
 abbrev pub node-at : Bank → ℕ → NodeM
 node-at m i = getD m i blank
 
@@ -64,6 +65,7 @@ abbrev pub shape-at : Bank → ℕ → Shape
 shape-at m i = getD (shapes m) i nothing
 
 -- a child's number is below its parent's, which is b at the first node
+-- every child is below its parent
 abbrev pub ClosedFrom : ℕ → Bank → Type 0
 ClosedFrom b [] = Unit {0}
 ClosedFrom b (n ∷ ns) = All (λ (p : Child). p .1 < b) (n .children) × ClosedFrom (suc b) ns
@@ -72,6 +74,7 @@ abbrev pub Closed : Bank → Type 0
 Closed m = ClosedFrom 0 m
 
 -- each node is as its kind has it, over the shapes of the nodes before
+-- every node is as its kind has it
 abbrev pub NodesOkOver : List Shape → Bank → Type 0
 NodesOkOver ss [] = Unit {0}
 NodesOkOver ss (n ∷ ns) = NodeOk (n .kind) (n .leaf) (gather ss (n .children)) × NodesOkOver (ss ++ (shape-of ss n ∷ [])) ns
@@ -79,6 +82,7 @@ NodesOkOver ss (n ∷ ns) = NodeOk (n .kind) (n .leaf) (gather ss (n .children))
 abbrev pub NodesOk : Bank → Type 0
 NodesOk m = NodesOkOver [] m
 
+-- what holds of the shapes of any bank
 pub record BankLaws : Type 0 where
   -- nodes that are added leave every shape before them as it was
   pub kept : (m more : Bank) (i : ℕ) → i < length m → shape-at (m ++ more) i ≡ shape-at m i

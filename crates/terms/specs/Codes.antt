@@ -17,6 +17,7 @@ abbrev pub from-code : {A : Type 0} → (A → ℕ) → List A → ℕ → Resul
 from-code code [] n = Err refusal.Leaf
 from-code code (x ∷ xs) n = cond (eqb (code x) n) (Ok x) (from-code code xs n)
 
+-- the types, by their numbers
 abbrev pub type-code : {N : Type 0} → «Type» N → ℕ
 type-code type.Bool = 0
 type-code type.Long = 1
@@ -26,6 +27,7 @@ type-code type.Record = 4
 type-code (type.Entity n) = 5
 type-code (type.Extension n) = 6
 
+-- the name that a type has
 abbrev pub type-name : {N : Type 0} → «Type» N → Option N
 type-name type.Bool = None
 type-name type.Long = None

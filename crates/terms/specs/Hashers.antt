@@ -26,8 +26,10 @@ pub record TapeS : Type 0 where
   pub front : List ℕ
   pub count : ℕ
 
+-- a tape that was fed nothing
 abbrev pub tape-start : TapeS
 tape-start = record { front = []; count = 0 }
 
+-- one byte more: kept while there is room, counted always
 abbrev pub tape-next : TapeS → ℕ → TapeS
 tape-next s b = record { front = take 256 (s .front ++ (b ∷ [])); count = (s .count + 1) % 2 ^ 64 }

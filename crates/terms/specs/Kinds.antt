@@ -36,6 +36,7 @@ some-texts = 6
 abbrev pub a-pattern : ℕ
 a-pattern = 7
 
+-- which sort a leaf is
 abbrev pub sort : Leaf → ℕ
 sort Leaf.bare = no-leaf
 sort (Leaf.literal l) = a-literal

@@ -35,6 +35,7 @@ abbrev mutual
 abbrev pub size : Shape → ℕ
 size = tally (λ k l. 1)
 
+-- the sizes of children together
 abbrev pub sizes : Shapes → ℕ
 sizes = tallies (λ k l. 1)
 

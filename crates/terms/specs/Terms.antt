@@ -14,6 +14,7 @@ pub record NameS : Type 0 where
   pub base : Text
   pub namespaces : List Text
 
+-- a truth value, a signed number of 64 bits, a text, or an entity by its type name and identifier
 pub data LiteralS : Type 0 where
   bool : Bool → LiteralS
   long : ℤ → LiteralS
@@ -30,6 +31,7 @@ pub data ElemS : Type 0 where
   scalar : ℕ → ElemS
   wildcard : ElemS
 
+-- what a node has besides its children; a variable, a slot and an operator are codes
 pub data Leaf : Type 0 where
   bare : Leaf
   literal : LiteralS → Leaf

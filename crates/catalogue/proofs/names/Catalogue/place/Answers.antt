@@ -1,11 +1,10 @@
-use mathlib.Core.Path.{_≡_}
+use mathlib.Core.Path.{sym}
 use mathlib.Core.List.{[]}
-use Prim.Native.Nat.{ℕ, _+_, _-_, _/_, _≤_, _<_}
+use Prim.Native.Nat.{_+_, _-_, _/_, _<_}
 use native.Mathlib.Omega.{arith}
-use lib.ListN.{length, getD}
+use lib.ListN.{getD}
 use Rattle.std.specs.Of.Vec.{vec-len}
 use Rattle.std.specs.declared.cmp.Ordering.the-variants.{Less, Equal, Greater}
-use Rattle.terms.specs.Orders.{text-order}
 use Rattle.terms.proofs.LeafLaws.{text-laws}
 use Rattle.catalogue.specs.Puts.{texts}
 use Rattle.catalogue.proofs.Places.{Above, lowered, raised, found, absent, placed-at, placed-found}
@@ -32,7 +31,7 @@ returns-in-Equal c =
     let middle = c .loop-low .low + (c .loop-low .high - c .loop-low .low) / 2 in
     let within : middle < vec-len v = omega arith in
     let equal = asked v (c .args .name .now) (c .as-slice .result .now) middle (c .index .result .now) Equal within (c .index .ensures) (c .as-slice .ensures .value) (c .in-Equal .ensures tt) in
-    (found text-laws (c .args .name .now) (texts v) [] middle (omega arith) equal, placed-found text-laws (c .args .name .now) (texts v) [] middle (c .args .self .now .ascends) (omega arith) equal)
+    (found text-laws (c .args .name .now) (texts v) [] middle (omega arith) equal, omega arith, sym (text-laws .same (c .args .name .now) (getD (texts v) middle []) equal), placed-found text-laws (c .args .name .now) (texts v) [] middle (c .args .self .now .ascends) (omega arith) equal)
 
 pub loop-low-again : need.loop-low-again
 loop-low-again c =

@@ -1,7 +1,6 @@
-use mathlib.Core.Path.{_≡_, refl, sym, ap, subst, _∙_}
-use mathlib.Core.Bool.{true, false, cond}
+use mathlib.Core.Path.{refl, sym, subst, _∙_}
+use mathlib.Core.Bool.{true, false}
 use native.Mathlib.Omega.{arith}
-use Rattle.std.specs.Holes.{inserted}
 use Rattle.std.specs.Results.{isOk}
 use Rattle.catalogue.specs.Puts.{texts, Puts, Settles}
 use Rattle.catalogue.proofs.Vectors.{texts-len, texts-after}
@@ -14,7 +13,7 @@ returns-in-rest c =
     let ns = texts (c .args .self .now .names) in
     let h = c .in-rest .ensures tt in
     record {
-      value = put-repeated ns (c .args .name .now) (c .if-name-gt-LONGEST .left) ns refl (h .0) (h .1);
+      value = put-repeated ns (c .args .name .now) (c .if-name-gt-LONGEST .left) ns refl (h .0) (h .3);
       settles = settles-repeated ns (c .args .name .now) ns (h .0) refl;
     }
 
