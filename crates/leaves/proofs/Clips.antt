@@ -1,7 +1,7 @@
--- Parts of lists that are cut at the list's end, and members of lists that stand for others.
+-- Parts of lists that are cut at the end of the list, and what `get` answers.
 use mathlib.Core.Path.{_≡_, refl, sym, ap, _∙_}
-use mathlib.Core.List.{List, [], _∷_, map}
-use Prim.Native.Nat.{ℕ, zero, suc, _+_, _-_, _≤_, _<_, min}
+use mathlib.Core.List.{List}
+use Prim.Native.Nat.{ℕ, _+_, _-_, _≤_, min}
 use native.Mathlib.Omega.{arith}
 use native.Mathlib.Decide.{decLe}
 use denote.Ref.{RefT, now}
@@ -31,15 +31,6 @@ module _ {A : Type 0} where
       let k : (a + m) - a ≡ m = omega arith in
       let l : m ≡ min (length (drop a xs)) n = omega (arith, length-drop a xs) in
       ap (λ j. take j (drop a xs)) k ∙ take-clipped (drop a xs) m n l (decLe n (length (drop a xs))) ∙ ap (take n) (drop-clipped xs a s e (decLe s (length xs)))
-
-pub length-map : {A B : Type 0} (f : A → B) (xs : List A) → length xs ≡ length (map f xs)
-length-map f [] = refl
-length-map f (x ∷ xs) = ap suc (length-map f xs)
-
-pub nth-map : {A B : Type 0} (f : A → B) (xs : List A) (i : ℕ) → mapped f (nth xs i) ≡ nth (map f xs) i
-nth-map f [] i = refl
-nth-map f (x ∷ xs) zero = refl
-nth-map f (x ∷ xs) (suc i) = nth-map f xs i
 
 -- what a slice's `get` answers
 pub got : {A : Type 0} (xs : List A) (i : ℕ) (r : Option (RefT A)) → isSome r ≡ ltb i (length xs) → found r (λ x. now x ≡ getD xs i (now x)) → mapped now r ≡ nth xs i

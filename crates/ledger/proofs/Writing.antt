@@ -4,12 +4,9 @@ use mathlib.Core.List.{List, [], _∷_, _++_, map}
 use Prim.Native.Nat.{ℕ, _+_, _≤_, _<_}
 use lib.ListN.{length, getD, take}
 use Rattle.std.specs.Joined.{joined}
-use Rattle.std.proofs.shelf.Lists.{joined-more, map-more, take-all, append-nil, append-assoc}
+use Rattle.std.proofs.shelf.Lists.{joined-more, map-more, take-all, append-assoc}
 
 module _ {X Y : Type 0} (g : X → Y) (f : Y → List ℕ) (bs : List ℕ) (xs : List X) where
-  pub wrote-none : bs ≡ bs ++ joined f (map g (take 0 xs))
-  wrote-none = sym (append-nil bs)
-
   pub wrote-more : (i : ℕ) (x : X) (out out′ s t : List ℕ) → i < length xs → x ≡ getD xs i x → out ≡ bs ++ joined f (map g (take i xs)) → out′ ≡ out ++ s → s ≡ t → t ≡ f (g x) → out′ ≡ bs ++ joined f (map g (take (i + 1) xs))
   wrote-more i x out out′ s t l h e u v w =
       u ∙ (λ j. e j ++ (v ∙ w) j)
