@@ -1,4 +1,6 @@
 //! The attribute names of a catalogue: lines of bytes, and names in order, each once.
+#![tactic(auto)]
+
 pub mod entry;
 pub mod lines;
 pub mod names;

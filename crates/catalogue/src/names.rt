@@ -66,7 +66,7 @@ impl Catalogue {
         let Err(place) = self.place(name) else {
             return Ok(Entry::Repeated);
         };
-        let Ok(copy) = Vec::from_slice(self.names.allocator(), name) else {
+        let Ok(copy) = Vec::from_slice(*self.names.allocator(), name) else {
             return Err(Refusal::Memory);
         };
         match self.names.insert(place, copy) {

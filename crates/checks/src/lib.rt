@@ -1,4 +1,5 @@
 //! What is asked of a leaf before a bank keeps it.
+#![tactic(auto)]
 pub mod leaf;
 mod literal;
 mod name;

@@ -49,37 +49,46 @@ pub enum LeafSort {
     Pattern,
 }
 
-// Each kind with its number, its leaf, how many codes it has and its children, in the order of the enum.
-const KINDS: [(Kind, u8, LeafSort, u8, Children); 17] = [
-    (Kind::Lit, 0, LeafSort::Literal, 0, Children::Exactly(0)),
-    (Kind::Var, 1, LeafSort::Code, 4, Children::Exactly(0)),
-    (Kind::Slot, 2, LeafSort::Code, 2, Children::Exactly(0)),
-    (Kind::Unknown, 3, LeafSort::Unknown, 0, Children::Exactly(0)),
-    (Kind::If, 4, LeafSort::Nothing, 0, Children::Exactly(3)),
-    (Kind::And, 5, LeafSort::Nothing, 0, Children::Exactly(2)),
-    (Kind::Or, 6, LeafSort::Nothing, 0, Children::Exactly(2)),
-    (Kind::UnaryApp, 7, LeafSort::Code, 3, Children::Exactly(1)),
-    (Kind::BinaryApp, 8, LeafSort::Code, 12, Children::Exactly(2)),
-    (
-        Kind::ExtensionFunctionApp,
-        9,
-        LeafSort::Name,
-        0,
-        Children::Many,
-    ),
-    (Kind::GetAttr, 10, LeafSort::Text, 0, Children::Exactly(1)),
-    (Kind::HasAttr, 11, LeafSort::Text, 0, Children::Exactly(1)),
-    (
-        Kind::ExtHasAttr,
-        12,
-        LeafSort::Texts,
-        0,
-        Children::Exactly(1),
-    ),
-    (Kind::Like, 13, LeafSort::Pattern, 0, Children::Exactly(1)),
-    (Kind::Set, 14, LeafSort::Nothing, 0, Children::Many),
-    (Kind::Record, 15, LeafSort::Nothing, 0, Children::Keyed),
-    (Kind::Is, 16, LeafSort::Name, 0, Children::Exactly(1)),
+// Each kind with its number and its children, in the order of the enum.
+const KINDS: [(Kind, u8, Children); 17] = [
+    (Kind::Lit, 0, Children::Exactly(0)),
+    (Kind::Var, 1, Children::Exactly(0)),
+    (Kind::Slot, 2, Children::Exactly(0)),
+    (Kind::Unknown, 3, Children::Exactly(0)),
+    (Kind::If, 4, Children::Exactly(3)),
+    (Kind::And, 5, Children::Exactly(2)),
+    (Kind::Or, 6, Children::Exactly(2)),
+    (Kind::UnaryApp, 7, Children::Exactly(1)),
+    (Kind::BinaryApp, 8, Children::Exactly(2)),
+    (Kind::ExtensionFunctionApp, 9, Children::Many),
+    (Kind::GetAttr, 10, Children::Exactly(1)),
+    (Kind::HasAttr, 11, Children::Exactly(1)),
+    (Kind::ExtHasAttr, 12, Children::Exactly(1)),
+    (Kind::Like, 13, Children::Exactly(1)),
+    (Kind::Set, 14, Children::Many),
+    (Kind::Record, 15, Children::Keyed),
+    (Kind::Is, 16, Children::Exactly(1)),
+];
+
+// Each kind with its leaf and how many codes it has, in the order of the enum.
+const LEAVES: [(Kind, LeafSort, u8); 17] = [
+    (Kind::Lit, LeafSort::Literal, 0),
+    (Kind::Var, LeafSort::Code, 4),
+    (Kind::Slot, LeafSort::Code, 2),
+    (Kind::Unknown, LeafSort::Unknown, 0),
+    (Kind::If, LeafSort::Nothing, 0),
+    (Kind::And, LeafSort::Nothing, 0),
+    (Kind::Or, LeafSort::Nothing, 0),
+    (Kind::UnaryApp, LeafSort::Code, 3),
+    (Kind::BinaryApp, LeafSort::Code, 12),
+    (Kind::ExtensionFunctionApp, LeafSort::Name, 0),
+    (Kind::GetAttr, LeafSort::Text, 0),
+    (Kind::HasAttr, LeafSort::Text, 0),
+    (Kind::ExtHasAttr, LeafSort::Texts, 0),
+    (Kind::Like, LeafSort::Pattern, 0),
+    (Kind::Set, LeafSort::Nothing, 0),
+    (Kind::Record, LeafSort::Nothing, 0),
+    (Kind::Is, LeafSort::Name, 0),
 ];
 
 impl Kind {
@@ -120,21 +129,21 @@ impl Kind {
     pub fn children(self) -> Children
         ensures { children_of result ≡ (kind (kind_code self)).children }
     {
-        KINDS[self as usize].4
+        KINDS[self as usize].2
     }
 
     /// Which leaf a node of the kind has.
     pub fn leaf(self) -> LeafSort
         ensures { sort_code result ≡ (kind (kind_code self)).leaf }
     {
-        KINDS[self as usize].2
+        LEAVES[self as usize].1
     }
 
     /// How many codes there are, where the leaf is one.
     pub fn codes(self) -> u8
         ensures { result ≡ (kind (kind_code self)).codes }
     {
-        KINDS[self as usize].3
+        LEAVES[self as usize].2
     }
 }
 

@@ -1,4 +1,6 @@
 //! The values that leaves are made of: texts in lists, names, literals, unknowns and patterns.
+#![tactic(auto)]
+
 pub mod leaf;
 pub mod literal;
 pub mod name;

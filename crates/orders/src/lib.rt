@@ -1,4 +1,6 @@
 //! The orders of texts, names, literals, types, unknowns and patterns.
+#![tactic(auto)]
+
 pub mod literal;
 pub mod name;
 pub mod pattern;

@@ -1,3 +1,4 @@
 //! The pairs of key and node that a draft collects, in ascending key order.
+#![tactic(auto)]
 pub mod link;
 pub mod pairs;

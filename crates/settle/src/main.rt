@@ -1,4 +1,5 @@
 //! Puts the attribute names of a catalogue in order, each once, with their digests.
+#![tactic(auto)]
 use ledger::report::settle;
 use std::io::{Read, Write};
 use std::{env, fmt, io};

@@ -1,4 +1,5 @@
 //! Numbered nodes over inner tables of nodes, links and texts.
+#![tactic(auto)]
 pub mod branches;
 pub mod links;
 pub mod location;

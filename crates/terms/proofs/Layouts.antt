@@ -1,10 +1,9 @@
 -- A well-formed shape is held by the bank that it is laid out as.
-use Rattle.std.proofs.Common.{◌≡◌, ℕ, suc, ◌+◌, ◌<◌, ◌≤◌, List, [], ◌∷◌, ◌++◌, length, get_or, sym, refl, ap, ◌∙◌, subst, arith, length-append}
-use Rattle.std.proofs.lemmas.List.{get_or_push, length_push}
-use Rattle.terms.specs.Terms.{Leaf}
+use Rattle.std.proofs.Common.{◌≡◌, ℕ, suc, ◌+◌, List, [], ◌∷◌, ◌++◌, length, get_or, sym, refl, ap, ◌∙◌, subst, arith, length-append}
+use Rattle.std.proofs.lemmas.List.{get_or_push}
 use Rattle.terms.specs.Shape.{Shape, node, Shapes, done, entry, size, sizes}
-use Rattle.terms.specs.Formed.{All, NodeOk, Formed, AllFormed}
-use Rattle.terms.specs.Bank.{Child, NodeM, Bank, table, nothing, gather, shape_of, shape_at, ClosedFrom, Closed, NodesOkOver, NodesOk}
+use Rattle.terms.specs.Formed.{NodeOk, Formed, AllFormed}
+use Rattle.terms.specs.Bank.{Bank, table, nothing, gather, shape_of, ClosedFrom, NodesOkOver}
 use Rattle.terms.specs.Layout.{root, roots, laid_node, laid, laids, Holds, FormedLaws}
 use Rattle.terms.proofs.Tables.{table_append, table_length, table_front}
 use Rattle.terms.proofs.BankShapes.{Within, within_up, formed}

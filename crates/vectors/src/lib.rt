@@ -1,4 +1,5 @@
 //! Published digests, the bytes that leaves are fed as, and leaves in their order.
+#![tactic(auto)]
 
 #[cfg(test)]
 mod tests {

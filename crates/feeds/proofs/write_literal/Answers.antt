@@ -9,7 +9,7 @@ returns-in-Entity g c =
     let m = g.H.Hasher in
     let start = m.state c.args.h.now in
     let marked = m.state c.write-in-Entity.new.self in
-    let named = m.state c.write-name.new.h in
+    let named = m.state c.write_name.new.h in
     let name = feed_name (name_of c.in-Entity.n) in
-    let begun = fed_both m.next start marked named (3 ∷ []) name c.write-in-Entity.ensures c.write-name.ensures in
-    rw c.in-Entity.is (fed_both m.next start named (m.state c.write-text_in-Entity.new.h) (3 ∷ name) (feed_text c.in-Entity.t.now) begun c.write-text_in-Entity.ensures)
+    let begun = fed_both m.next start marked named (3 ∷ []) name c.write-in-Entity.ensures c.write_name.ensures in
+    rw c.in-Entity.is (fed_both m.next start named (m.state c.write_text-in-Entity.new.h) (3 ∷ name) (feed_text c.in-Entity.t.now) begun c.write_text-in-Entity.ensures)

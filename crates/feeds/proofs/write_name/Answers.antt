@@ -7,4 +7,4 @@ pub returns : goal.returns
 returns g c =
     let m = g.H.Hasher in
     let n = c.args.n in
-    fed_both m.next (m.state c.args.h.now) (m.state c.write-text.new.h) (m.state c.write-texts.new.h) (feed_text n.base.now) (feed_list feed_text (texts_of n.namespaces)) c.write-text.ensures c.write-texts.ensures
+    fed_both m.next (m.state c.args.h.now) (m.state c.write_text.new.h) (m.state c.write_texts.new.h) (feed_text n.base.now) (feed_list feed_text (texts_of n.namespaces)) c.write_text.ensures c.write_texts.ensures

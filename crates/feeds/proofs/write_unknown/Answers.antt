@@ -8,4 +8,4 @@ pub returns : goal.returns
 returns g c =
     let m = g.H.Hasher in
     let u = c.args.u in
-    fed_both m.next (m.state c.args.h.now) (m.state c.write-text.new.h) (m.state c.write-annotation.new.h) (feed_text u.name.now) (feed_option feed_type (option_map type_of u.type_annotation)) c.write-text.ensures c.write-annotation.ensures
+    fed_both m.next (m.state c.args.h.now) (m.state c.write_text.new.h) (m.state c.write_annotation.new.h) (feed_text u.name.now) (feed_option feed_type (option_map type_of u.type_annotation)) c.write_text.ensures c.write_annotation.ensures

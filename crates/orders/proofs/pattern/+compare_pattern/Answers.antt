@@ -1,4 +1,4 @@
-use Rattle.std.proofs.Common.{◌≡◌, sym, ◌∙◌, arith, ltb-false, ltb-true}
+use Rattle.std.proofs.Common.{sym, ◌∙◌, arith, ltb-false, ltb-true}
 use Rattle.terms.specs.Compare.{by}
 use Rattle.terms.specs.Orders.{elem_order}
 use Rattle.leaves.specs.Values.{elem_of}
@@ -17,6 +17,6 @@ returns-in-len1-up-empty t c = second_empty (by elem_of elem_order) c.args.a.now
 
 pub returns-in-Equal : goal.returns-in-Equal
 returns-in-Equal t c =
-    first_alike (by elem_of elem_order) c.args.a.now c.args.b.now (Scalar 0) (Scalar 0) c.compare-pattern.result (omega (arith, ltb-false)) (omega (arith, ltb-false)) c.in-Equal.ensures
-    (c.compare-pattern.ensures ∙ sym (order_map elem_of elem_order (rest c.args.a.now) (rest c.args.b.now)))
+    first_alike (by elem_of elem_order) c.args.a.now c.args.b.now (Scalar 0) (Scalar 0) c.compare_pattern.result (omega (arith, ltb-false)) (omega (arith, ltb-false)) c.in-Equal.ensures
+    (c.compare_pattern.ensures ∙ sym (order_map elem_of elem_order (rest c.args.a.now) (rest c.args.b.now)))
     ∙ order_map elem_of elem_order c.args.a.now c.args.b.now

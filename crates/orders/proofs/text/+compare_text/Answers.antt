@@ -1,5 +1,4 @@
-use Rattle.std.proofs.Common.{◌≡◌, get_or, sym, ap, ◌∙◌, arith, ltb-false, ltb-true}
-use Rattle.terms.proofs.Lawful.{numbers, self}
+use Rattle.std.proofs.Common.{arith, ltb-false, ltb-true}
 use Rattle.orders.proofs.Slices.{both_empty, first_empty, second_empty, first_alike}
 use Rattle.orders.proofs.text.+compare_text.Goals as goal
 use Rattle.std.specs.Ordering.{nat_cmp}
@@ -14,4 +13,4 @@ pub returns-in-len1-up-empty : goal.returns-in-len1-up-empty
 returns-in-len1-up-empty t c = second_empty nat_cmp c.args.a.now c.args.b.now (omega (arith, ltb-false)) (omega (arith, ltb-true))
 
 pub returns-in-Equal : goal.returns-in-Equal
-returns-in-Equal t c = first_alike nat_cmp c.args.a.now c.args.b.now 0 0 c.compare-text.result (omega (arith, ltb-false)) (omega (arith, ltb-false)) (sym (self numbers (get_or c.args.a.now 0 0)) ∙ ap (nat_cmp (get_or c.args.a.now 0 0)) c.in-Equal.ensures) c.compare-text.ensures
+returns-in-Equal t c = first_alike nat_cmp c.args.a.now c.args.b.now 0 0 c.compare_text.result (omega (arith, ltb-false)) (omega (arith, ltb-false)) c.in-Equal.ensures c.compare_text.ensures

@@ -5,11 +5,11 @@ use Rattle.leaves.specs.Values.{texts_of}
 use Rattle.orders.proofs.Slices.{place_stops, place_goes, place_ends}
 use Rattle.orders.proofs.texts.compare_texts.Goals as goal
 
-pub returns-in-default : goal.returns-in-default
-returns-in-default c =
-    place_stops text_order (texts_of c.args.a) (texts_of c.args.b) c.loop-at.at c.compare-members.result
-    (c.compare-members.ensures ∙ (λ i. option_order text_order (c.get.ensures i) (c.get-in-loop-at.ensures i)))
-    c.in-default.not-Equal
+pub returns-in_default : goal.returns-in_default
+returns-in_default c =
+    place_stops text_order (texts_of c.args.a) (texts_of c.args.b) c.loop-at.at c.compare_members.result
+    (c.compare_members.ensures ∙ (λ i. option_order text_order (c.get.ensures i) (c.get-in-loop-at.ensures i)))
+    c.in_default.not-Equal
     ∙ c.loop-at.invariant
 
 pub loop-at-preserved : goal.loop-at-preserved

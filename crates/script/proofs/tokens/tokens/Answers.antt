@@ -10,4 +10,4 @@ loop-token-preserved c =
 
 pub returns : goal.returns
 returns c =
-    record { value = chained c.args.line.now c.loop-token.from _ c.loop-token.invariant c.in-default.ensures.value; law = all_read c.args.line.now c.loop-token.from _ c.loop-token.invariant c.in-default.ensures.law }
+    record { value = chained c.args.line.now c.loop-token.from _ c.loop-token.invariant c.in_default.ensures.value; law = all_read c.args.line.now c.loop-token.from _ c.loop-token.invariant c.in_default.ensures.law }

@@ -5,10 +5,10 @@ use Rattle.catalogue.proofs.Putting.{put_repeated, put_kept, put_unmade, put_ris
 use Rattle.catalogue.proofs.names.Catalogue.put.Goals as goal
 use Rattle.catalogue.proofs.names.Catalogue.put.Goals.{in-Ok-insert, in-Err-insert}
 
-pub returns-in-default : goal.returns-in-default
-returns-in-default c =
+pub returns-in_default : goal.returns-in_default
+returns-in_default c =
     let ns = texts c.args.self.now.names in
-    let h = c.in-default.ensures in
+    let h = c.in_default.ensures in
     record {
       value = put_repeated ns c.args.name.now c.if-name-gt-LONGEST.false ns refl h.0 h.3;
       settles = settles_repeated ns c.args.name.now ns h.0 refl;

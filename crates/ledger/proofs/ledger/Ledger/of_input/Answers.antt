@@ -19,7 +19,7 @@ pub returns : goal.returns
 returns c =
     let l = c.loop-line.ledger in
     let ls = lines c.args.input.now in
-    let e : ledger_of l ≡ noted_all blank ls = sym (ap (noted_all (ledger_of l)) c.in-default.ensures.all) ∙ c.loop-line.invariant in
+    let e : ledger_of l ≡ noted_all blank ls = sym (ap (noted_all (ledger_of l)) c.in_default.ensures.all) ∙ c.loop-line.invariant in
     let n = texts_len l.catalogue.names in
     let m = length-map (vec_items l.refused) long_of ∙ sym l.refused.ok.0 in
     record { value = e; members = run_exactly ls (ledger_of l) e; counts = (run_read ls (ledger_of l) e, omega (arith, l.adds)) }

@@ -16,8 +16,8 @@ get-requires c = search (rules, length_model)
 pub returns-in-Literal-Bool : goal.returns-in-Literal-Bool
 returns-in-Literal-Bool c = ?
 
-pub returns-in-default : goal.returns-in-default
-returns-in-default c = ?
+pub returns-in_default : goal.returns-in_default
+returns-in_default c = ?
 
-pub returns-in-default·2 : goal.returns-in-default·2
-returns-in-default·2 c = ?
+pub returns-in_default·2 : goal.returns-in_default·2
+returns-in_default·2 c = ?
