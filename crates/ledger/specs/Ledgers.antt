@@ -1,5 +1,5 @@
 -- What comes of lines: the names kept, the lines refused, and how many were read and repeated.
-use Rattle.std.specs.Prelude.{◌≡◌, ℕ, ◌+◌, ◌≤◌, cond, ◌⊎◌, List, [], ◌∷◌, ◌++◌, map, length, Ok, Err, vec_items, Result, nat_lt}
+use Rattle.std.specs.Prelude.{◌≡◌, ℕ, ◌+◌, ◌≤◌, cond, List, [], ◌∷◌, ◌++◌, map, length, Ok, Err, vec_items, Result, nat_lt}
 use Rattle.terms.specs.Terms.{Text}
 use Rattle.terms.specs.Orders.{text_order}
 use Rattle.terms.specs.declared.refusal.Refusal.{Refusal}

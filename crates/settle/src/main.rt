@@ -1,7 +1,9 @@
 //! Puts the attribute names of a catalogue in order, each once, with their digests.
 #![tactic(auto)]
+
 use ledger::report::settle;
 use std::io::{Read, Write};
+use std::process::ExitCode;
 use std::{env, fmt, io};
 
 const USAGE: &str = "usage: settle < NAMES
@@ -77,10 +79,12 @@ fn run(rt: &HostRuntime) -> Result<(), Fault> {
     Ok(())
 }
 
-fn main(rt: HostRuntime) -> Result<(), Fault> {
-    let done = run(&rt);
-    if let Err(fault) = &done {
-        let _ = eprintln!(rt; "settle: {fault}");
+fn main(rt: HostRuntime) -> ExitCode {
+    match run(&rt) {
+        Ok(()) => ExitCode::SUCCESS,
+        Err(fault) => {
+            let _ = eprintln!(rt; "settle: {fault}");
+            ExitCode::FAILURE
+        }
     }
-    done
 }

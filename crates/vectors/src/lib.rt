@@ -54,7 +54,7 @@ mod tests {
             tape.write(7);
         }
         tape.write(8);
-        assert_eq!(rt; tape.bytes(), &[7; 256]);
+        assert_eq!(rt; tape.bytes(), [7; 256].as_slice());
         assert_eq!(rt; tape.count(), 300);
     }
 
@@ -63,7 +63,7 @@ mod tests {
     fn counted_layouts(rt: HostRuntime) {
         let mut tape = Tape::new();
         write_text(&mut tape, b"hi");
-        assert_eq!(rt; tape.bytes(), b"\x02\0\0\0\0\0\0\0hi");
+        assert_eq!(rt; tape.bytes(), b"\x02\0\0\0\0\0\0\0hi".as_slice());
 
         let mut tape = Tape::new();
         let name = Name {
@@ -73,7 +73,7 @@ mod tests {
         write_name(&mut tape, name);
         assert_eq!(rt;
             tape.bytes(),
-            b"\x01\0\0\0\0\0\0\0P\x01\0\0\0\0\0\0\0\x01\0\0\0\0\0\0\0N"
+            b"\x01\0\0\0\0\0\0\0P\x01\0\0\0\0\0\0\0\x01\0\0\0\0\0\0\0N".as_slice()
         );
 
         let mut tape = Tape::new();
@@ -81,11 +81,17 @@ mod tests {
             &mut tape,
             &[PatternElem::Scalar(0x1F600), PatternElem::Wildcard],
         );
-        assert_eq!(rt; tape.bytes(), b"\x02\0\0\0\0\0\0\0\0\0\xf6\x01\0\x01");
+        assert_eq!(rt;
+            tape.bytes(),
+            b"\x02\0\0\0\0\0\0\0\0\0\xf6\x01\0\x01".as_slice()
+        );
 
         let mut tape = Tape::new();
         write_long(&mut tape, -2);
-        assert_eq!(rt; tape.bytes(), b"\xfe\xff\xff\xff\xff\xff\xff\xff");
+        assert_eq!(rt;
+            tape.bytes(),
+            b"\xfe\xff\xff\xff\xff\xff\xff\xff".as_slice()
+        );
     }
 
     // A mark before each type and each literal.
@@ -96,7 +102,7 @@ mod tests {
         write_type(&mut tape, Type::Set);
         assert_eq!(rt;
             tape.bytes(),
-            b"\x05\x01\0\0\0\0\0\0\0P\0\0\0\0\0\0\0\0\x03"
+            b"\x05\x01\0\0\0\0\0\0\0P\0\0\0\0\0\0\0\0\x03".as_slice()
         );
 
         let mut tape = Tape::new();
@@ -106,7 +112,7 @@ mod tests {
             type_annotation: Some(Type::Long),
         };
         write_unknown(&mut tape, unknown);
-        assert_eq!(rt; tape.bytes(), b"\x01\0\0\0\0\0\0\0p\x01\x01");
+        assert_eq!(rt; tape.bytes(), b"\x01\0\0\0\0\0\0\0p\x01\x01".as_slice());
 
         let mut tape = Tape::new();
         write_literal(&mut tape, Literal::Bool(true));
@@ -114,14 +120,14 @@ mod tests {
         write_literal(&mut tape, Literal::String(b"s"));
         assert_eq!(rt;
             tape.bytes(),
-            b"\0\x01\x01\x01\0\0\0\0\0\0\0\x02\x01\0\0\0\0\0\0\0s"
+            b"\0\x01\x01\x01\0\0\0\0\0\0\0\x02\x01\0\0\0\0\0\0\0s".as_slice()
         );
 
         let mut tape = Tape::new();
         write_literal(&mut tape, Literal::Entity(NAME, b"i"));
         assert_eq!(rt;
             tape.bytes(),
-            b"\x03\x01\0\0\0\0\0\0\0P\0\0\0\0\0\0\0\0\x01\0\0\0\0\0\0\0i"
+            b"\x03\x01\0\0\0\0\0\0\0P\0\0\0\0\0\0\0\0\x01\0\0\0\0\0\0\0i".as_slice()
         );
     }
 

@@ -11,8 +11,8 @@ both out mid out' name again s u t n a b d e f g h = wrote_both out mid out' nam
 pub loop-name-preserved : goal.loop-name-preserved
 loop-name-preserved c =
     let x = c.name-item.result in
-    let added = both (vec_items c.loop-name.out) (vec_items c.extend-from-slice.new.self) (vec_items c.extend-from-slice-in-loop-name.new.self) c.as-slice.result.now c.as-slice-in-loop-name.result.now c.as-bytes.result.now (string_bytes c.in-ok-digest.digest) (vec_items x) c.fnv1a.result c.in-ok-extend-from-slice.ensures.items c.in-ok-extend-from-slice-2.ensures.items c.as-bytes.ensures.value c.in-ok-digest.ensures c.fnv1a.ensures c.as-slice-in-loop-name.ensures.value c.as-slice.ensures.value in
-    wrote_more vec_items entry_line (vec_items c.args.out.now) c.args.names.now c.loop-name.name-index x (vec_items c.loop-name.out) (vec_items c.extend-from-slice-in-loop-name.new.self) (entry_line (vec_items x)) (entry_line (vec_items x))
+    let added = both (vec_items c.loop-name.out) (vec_items c.extend_from_slice.new.self) (vec_items c.extend_from_slice-in-loop-name.new.self) c.as_slice.result.now c.as_slice-in-loop-name.result.now c.as_bytes.result.now (string_bytes c.in_ok-digest.digest) (vec_items x) c.fnv1a.result c.in_ok-extend_from_slice.ensures.items c.in_ok-extend_from_slice-2.ensures.items c.as_bytes.ensures.value c.in_ok-digest.ensures c.fnv1a.ensures c.as_slice-in-loop-name.ensures.value c.as_slice.ensures.value in
+    wrote_more vec_items entry_line (vec_items c.args.out.now) c.args.names.now c.loop-name.name-index x (vec_items c.loop-name.out) (vec_items c.extend_from_slice-in-loop-name.new.self) (entry_line (vec_items x)) (entry_line (vec_items x))
     c.loop-name-test.true c.name-item.is c.loop-name.invariant added refl refl
 
 pub returns : goal.returns

@@ -5,7 +5,7 @@ use Rattle.script.proofs.tokens.tokens.Goals as goal
 
 pub loop-token-preserved : goal.loop-token-preserved
 loop-token-preserved c =
-    let e = pushed (c.in-Some.token ∷ []) refl c.in-ok-push.was c.push.ensures.items in
+    let e = pushed (c.in-Some.token ∷ []) refl c.in_ok-push.was c.push.ensures.items in
     one_more c.args.line.now c.loop-token.from _ _ c.in-Some.token e c.loop-token.invariant c.in-Some.ensures.value c.in-Some.ensures.law
 
 pub returns : goal.returns

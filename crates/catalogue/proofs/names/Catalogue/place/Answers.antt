@@ -15,7 +15,7 @@ loop-low-preserved-in-Less c =
     let v = c.args.self.now.names in
     let middle = c.loop-low.low + (c.loop-low.high - c.loop-low.low) / 2 in
     let within : middle < vec_len v = omega arith in
-    let less = asked v c.args.name.now c.as-slice.result.now middle c.index.result.now Less within c.index.ensures c.as-slice.ensures.value c.in-Less.ensures in
+    let less = asked v c.args.name.now c.as_slice.result.now middle c.index.result.now Less within c.index.ensures c.as_slice.ensures.value c.in-Less.ensures in
     (omega arith, omega arith, c.loop-low.invariant.2, lowered text_laws c.args.name.now (texts v) [] middle c.args.self.now.ascends less)
 
 pub returns-in-Equal : goal.returns-in-Equal
@@ -24,7 +24,7 @@ returns-in-Equal c =
     let n = texts_len v in
     let middle = c.loop-low.low + (c.loop-low.high - c.loop-low.low) / 2 in
     let within : middle < vec_len v = omega arith in
-    let equal = asked v c.args.name.now c.as-slice.result.now middle c.index.result.now Equal within c.index.ensures c.as-slice.ensures.value c.in-Equal.ensures in
+    let equal = asked v c.args.name.now c.as_slice.result.now middle c.index.result.now Equal within c.index.ensures c.as_slice.ensures.value c.in-Equal.ensures in
     (found text_laws c.args.name.now (texts v) [] middle (omega arith) equal, omega arith, sym (text_laws.same c.args.name.now (get_or (texts v) middle []) equal), placed_found text_laws c.args.name.now (texts v) [] middle c.args.self.now.ascends (omega arith) equal)
 
 pub loop-low-preserved : goal.loop-low-preserved
@@ -33,7 +33,7 @@ loop-low-preserved c =
     let n = texts_len v in
     let middle = c.loop-low.low + (c.loop-low.high - c.loop-low.low) / 2 in
     let within : middle < vec_len v = omega arith in
-    let greater = asked v c.args.name.now c.as-slice.result.now middle c.index.result.now Greater within c.index.ensures c.as-slice.ensures.value c.in-Greater.ensures in
+    let greater = asked v c.args.name.now c.as_slice.result.now middle c.index.result.now Greater within c.index.ensures c.as_slice.ensures.value c.in-Greater.ensures in
     (omega arith, omega arith, raised text_laws c.args.name.now (texts v) [] middle c.args.self.now.ascends (omega arith) greater, c.loop-low.invariant.3)
 
 pub returns : goal.returns

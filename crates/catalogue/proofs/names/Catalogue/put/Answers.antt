@@ -17,11 +17,11 @@ returns-in_default c =
 pub insert-requires : goal.insert-requires
 insert-requires c = omega (arith, texts_len c.args.self.now.names, c.in-Err.ensures)
 
-pub invariant-of-self : goal.invariant-of-self
-invariant-of-self c =
+pub invariant_of-self : goal.invariant_of-self
+invariant_of-self c =
     let v = c.args.self.now.names in
-    let a = texts_after (is_ok c.insert.result) v c.insert.new.self c.in-Err.place c.in-Ok.copy c.args.name.now c.insert.ensures.items c.in-Ok.ensures.made.0 in
-    (put_rises (is_ok c.insert.result) (texts v) (texts c.insert.new.self) c.in-Err.place c.args.name.now a c.in-Err.ensures.2 c.args.self.now.ascends, tt)
+    let a = texts_after (is_ok c.insert.result) v c.insert.new.self c.in-Err.place c.in-Ok.copy c.args.name.now c.insert.ensures.items c.in-Ok.ensures.items in
+    record { ascends = put_rises (is_ok c.insert.result) (texts v) (texts c.insert.new.self) c.in-Err.place c.args.name.now a c.in-Err.ensures.2 c.args.self.now.ascends }
 
 pub returns : goal.returns
 returns c =
@@ -30,7 +30,7 @@ returns c =
     let t = c.args.name.now in
     let after = texts c.insert.new.self in
     let h = c.in-Err.ensures in
-    let u = c.in-Ok.ensures.made.0 in
+    let u = c.in-Ok.ensures.items in
     elim c.match-insert.branch [
       | in-Ok-insert w ↦
           let a = texts_after true v c.insert.new.self c.in-Err.place c.in-Ok.copy t w.in-Ok-insert.ensures.items u ∙ sym h.2 in

@@ -13,7 +13,7 @@ pub loop-line-smaller : goal.loop-line-smaller
 loop-line-smaller c = shorter c.loop-line.rest.now c.in-Some.line.now c.in-Some.after.now c.in-Some.ensures.value
 
 pub loop-line-preserved : goal.loop-line-preserved
-loop-line-preserved c = run_on (ledger_of c.loop-line.ledger) (ledger_of c.note.new.self) (noted_all blank (lines c.args.input.now)) c.in-Some.line.now c.in-Some.after.now (lines c.loop-line.rest.now) c.in-Some.ensures.all c.in-ok-note.ensures c.loop-line.invariant
+loop-line-preserved c = run_on (ledger_of c.loop-line.ledger) (ledger_of c.note.new.self) (noted_all blank (lines c.args.input.now)) c.in-Some.line.now c.in-Some.after.now (lines c.loop-line.rest.now) c.in-Some.ensures.all c.in_ok-note.ensures c.loop-line.invariant
 
 pub returns : goal.returns
 returns c =

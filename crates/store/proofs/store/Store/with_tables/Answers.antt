@@ -6,10 +6,10 @@ use Rattle.store.proofs.store.Store.with_tables.Goals as goal
 
 pub invariant-of-result : goal.invariant-of-result
 invariant-of-result c =
-    let p = c.in-ok-nodes.ensures in
-    let q = c.in-ok-links.ensures in
-    let r = c.in-ok-texts.ensures.0 in
+    let p = c.in_ok-nodes.ensures in
+    let q = c.in_ok-links.ensures in
+    let r = c.in_ok-texts.ensures.0 in
     (held_none _ _ _ p q r, (∣ marked_none _ _ _ p q r ∣₁, (∣ subst Sound (sym (model_none _ _ _ p q r)) sound_empty ∣₁, tt)))
 
 pub returns : goal.returns
-returns c = model_none _ _ _ c.in-ok-nodes.ensures c.in-ok-links.ensures c.in-ok-texts.ensures.0
+returns c = model_none _ _ _ c.in_ok-nodes.ensures c.in_ok-links.ensures c.in_ok-texts.ensures.0
