@@ -1,5 +1,6 @@
 //! What is asked of a leaf before a bank keeps it.
 #![tactic(auto)]
+
 pub mod leaf;
 mod literal;
 mod name;

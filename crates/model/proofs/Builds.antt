@@ -1,7 +1,7 @@
 -- What building does to a bank.
-use Rattle.std.proofs.Common.{◌≡◌, ℕ, suc, ◌+◌, ◌<◌, ◌≤◌, Bool, true, false, cond, ◌&&◌, eqb, ltb, leb, List, [], ◌∷◌, ◌++◌, length, Some, None, Ok, Err, Option, Result, sym, refl, ap, ◌∙◌, subst, arith, ltb-true, eqb-true, leb-true}
+use Rattle.std.proofs.Common.{◌≡◌, ℕ, suc, ◌+◌, ◌<◌, ◌≤◌, Bool, true, false, ◌&&◌, eqb, ltb, leb, List, [], ◌∷◌, ◌++◌, length, Some, None, Ok, Option, sym, refl, ap, ◌∙◌, subst, arith, ltb-true, eqb-true, leb-true}
 use native.Mathlib.Decide.{dec_lt}
-use Rattle.std.proofs.lemmas.List.{append-nil, length_push}
+use Rattle.std.proofs.lemmas.List.{length_push}
 use Rattle.terms.specs.Terms.{Text}
 use Rattle.terms.specs.Kinds.{kind, sort}
 use Rattle.terms.specs.Shape.{Shape, Shapes, done, entry, count, size}
@@ -12,10 +12,10 @@ use Rattle.terms.specs.declared.refusal.Refusal.{Refusal}
 use Rattle.terms.specs.declared.refusal.Refusal.TheVariants as refusal
 use Rattle.terms.proofs.BankShapes.{bank_laws}
 use Rattle.terms.proofs.Layouts.{closed_append, ok_append}
-use Rattle.model.specs.Checks.{first_failed, every, there, leaf_fits, leaf_short, key_short, count_fits, keys_fit, node_fits}
+use Rattle.model.specs.Checks.{first_failed, every, there, leaf_fits, leaf_short, count_fits, keys_fit, node_fits}
 use Rattle.model.specs.Costs.{node_bytes, links_used, bytes_used}
 use Rattle.model.specs.Made.{single, plain_as, plain, folded_as, folded, folded_shape, made_as, made}
-use Rattle.model.specs.Build.{node_short, light, has_room, asks, add, built_plain, built, after, LongOk, Fitting, Sound, BuildLaws}
+use Rattle.model.specs.Build.{node_short, light, has_room, asks, add, built, after, LongOk, Fitting, Sound, BuildLaws}
 use Rattle.model.proofs.Small.{some_none, ok_err, ok_same, and_left, and_right}
 use Rattle.model.proofs.Rows.{join_never}
 use Rattle.model.proofs.Fits.{every_all, leaf_ok, count_ok, keys_ok, rises_ok}

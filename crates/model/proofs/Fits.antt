@@ -1,11 +1,11 @@
 -- What passes the tests of a node is within its bounds.
-use Rattle.std.proofs.Common.{◌≡◌, ℕ, Bool, true, false, ◌&&◌, ◌||◌, eqb, ltb, leb, ◌⊎◌, List, [], ◌∷◌, length, is_some, IfSome, Some, None, Option, Ordering, Less, Equal, Greater, sym, refl, subst, inl, inr, true≢false, arith, ltb-true, eqb-true, leb-true}
+use Rattle.std.proofs.Common.{◌≡◌, ℕ, Bool, true, false, ◌&&◌, ◌||◌, eqb, ltb, leb, ◌⊎◌, List, [], ◌∷◌, length, is_some, IfSome, Some, None, Option, Ordering, Less, Equal, Greater, sym, refl, inl, inr, true≢false, arith, ltb-true, eqb-true, leb-true}
 use mathlib.Core.Bool.{beq}
 use Rattle.std.specs.Ordering.{is_lt}
 use Rattle.terms.specs.Terms.{Text, NameS, LiteralS, TypeS, ElemS, Leaf}
 use Rattle.terms.specs.Orders.{text_order}
 use Rattle.terms.specs.Kinds.{Children, exactly, many, keyed}
-use Rattle.terms.specs.Shape.{Shape, count}
+use Rattle.terms.specs.Shape.{Shape}
 use Rattle.terms.specs.Formed.{All, TextOk, NameOk, LiteralOk, TypeOk, ElemOk, LeafOk, CountOk, KeysOk, Below, Rising, RisesOk}
 use Rattle.terms.specs.Bank.{Child, gather}
 use Rattle.model.specs.Checks.{every, any, name_fits, type_fits, literal_fits, elem_fits, leaf_fits, text_short, name_short, type_short, literal_short, leaf_short, key_short, count_fits, keyless, key_under, keys_rise, keys_fit}

@@ -1,11 +1,11 @@
 -- What the table of kinds says of leaves and children.
 use Rattle.std.proofs.Common.{◌≡◌, ℕ, zero, suc, ◌<◌, Bool, false, eqb, List, [], ◌∷◌, length, get_or, Some, None, Option, sym, refl, ap, ◌∙◌, subst, arith}
 use Rattle.terms.specs.Terms.{Leaf}
-use Rattle.terms.specs.Kinds.{exactly, Kind, kinds, kind, sort}
-use Rattle.terms.specs.Shape.{Shape, node, Shapes, done, entry, count}
-use Rattle.terms.specs.Fold.{leaf_bool, as_bool, join, fold}
+use Rattle.terms.specs.Kinds.{exactly, Kind, kinds, sort}
+use Rattle.terms.specs.Shape.{node, Shapes, done, entry, count}
+use Rattle.terms.specs.Fold.{leaf_bool, as_bool, join}
 use Rattle.terms.specs.Formed.{All, CountOk, NodeOk, Formed}
-use Rattle.terms.specs.Bank.{NodeM, Bank, node_at, gather, shapes, shape_at}
+use Rattle.terms.specs.Bank.{Bank, node_at, gather, shapes, shape_at}
 use Rattle.terms.proofs.BankShapes.{bank_laws, formed}
 use Rattle.model.specs.Build.{Sound}
 use Rattle.model.proofs.Small.{some_none}

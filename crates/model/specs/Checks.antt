@@ -1,10 +1,10 @@
 -- What is asked of the parts of a node before it is built, as tests.
-use Rattle.std.specs.Prelude.{ℕ, Bool, true, false, cond, ◌&&◌, ◌||◌, List, [], ◌∷◌, length, is_some, Some, None, Option, ◌==◌, nat_le, nat_lt}
+use Rattle.std.specs.Prelude.{ℕ, Bool, true, cond, ◌&&◌, ◌||◌, List, [], ◌∷◌, length, is_some, Some, None, Option, ◌==◌, nat_le, nat_lt}
 use Rattle.std.specs.Bool.{beq}
 use Rattle.std.specs.Ordering.{is_lt}
 use Rattle.terms.specs.Terms.{Text, NameS, LiteralS, TypeS, ElemS, Leaf}
 use Rattle.terms.specs.Orders.{text_order}
-use Rattle.terms.specs.Kinds.{Children, exactly, many, keyed, Kind, kind, sort}
+use Rattle.terms.specs.Kinds.{Children, exactly, many, keyed, kind, sort}
 use Rattle.terms.specs.Bank.{Child, NodeM}
 use Rattle.terms.specs.declared.refusal.Refusal.{Refusal}
 

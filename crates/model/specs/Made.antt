@@ -1,5 +1,5 @@
 -- What is built for a kind, a leaf and children. Two calls build another kind than they are named for.
-use Rattle.std.specs.Prelude.{ℕ, Bool, cond, List, [], ◌∷◌, Some, None, Option, ◌==◌}
+use Rattle.std.specs.Prelude.{ℕ, Bool, cond, [], ◌∷◌, Some, None, Option, ◌==◌}
 use Rattle.terms.specs.Terms.{Text, LiteralS, Leaf}
 use Rattle.terms.specs.Shape.{Shape, node, Shapes, done}
 use Rattle.terms.specs.Fold.{fold}

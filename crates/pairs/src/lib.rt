@@ -1,4 +1,5 @@
 //! The pairs of key and node that a draft collects, in ascending key order.
 #![tactic(auto)]
+
 pub mod link;
 pub mod pairs;

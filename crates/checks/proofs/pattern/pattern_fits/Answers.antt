@@ -4,8 +4,8 @@ use Rattle.std.proofs.lemmas.Bool.Decides.{nat_tests}
 use Rattle.leaves.specs.Values.{elem_of}
 use Rattle.checks.proofs.pattern.pattern_fits.Goals as goal
 
-pub returns-then-pattern-le-MAX-ELEMS : goal.returns-then-pattern-le-MAX-ELEMS
-returns-then-pattern-le-MAX-ELEMS c = let l = length-map c.args.pattern.now elem_of in grind (arith, nat_tests)
+pub returns-then-pattern-le-MAX_ELEMS : goal.returns-then-pattern-le-MAX_ELEMS
+returns-then-pattern-le-MAX_ELEMS c = let l = length-map c.args.pattern.now elem_of in grind (arith, nat_tests)
 
-pub returns-else-pattern-le-MAX-ELEMS : goal.returns-else-pattern-le-MAX-ELEMS
-returns-else-pattern-le-MAX-ELEMS c = let l = length-map c.args.pattern.now elem_of in grind (arith, nat_tests)
+pub returns-else-pattern-le-MAX_ELEMS : goal.returns-else-pattern-le-MAX_ELEMS
+returns-else-pattern-le-MAX_ELEMS c = let l = length-map c.args.pattern.now elem_of in grind (arith, nat_tests)

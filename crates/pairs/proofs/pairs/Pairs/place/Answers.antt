@@ -16,7 +16,7 @@ loop-low-preserved-in-Less c =
     let k = c.args.key.now in
     let middle = c.loop-low.low + (c.loop-low.high - c.loop-low.low) / 2 in
     let within : middle < vec_len p.links = omega arith in
-    let less = asked p k c.of-other.result.now c.as-slice.result.now middle c.index.result.now Less within c.index.ensures c.as-slice.ensures.value c.of-other.ensures c.in-Less.ensures in
+    let less = asked p k c.of-other.result.now c.as_slice.result.now middle c.index.result.now Less within c.index.ensures c.as_slice.ensures.value c.of-other.ensures c.in-Less.ensures in
     (omega arith, omega arith, c.loop-low.invariant.2, lowered k (entries p) middle p.rises less)
 
 pub returns-in-Equal : goal.returns-in-Equal
@@ -26,7 +26,7 @@ returns-in-Equal c =
     let n = entries_len p in
     let middle = c.loop-low.low + (c.loop-low.high - c.loop-low.low) / 2 in
     let within : middle < vec_len p.links = omega arith in
-    let equal = asked p k c.of-other.result.now c.as-slice.result.now middle c.index.result.now Equal within c.index.ensures c.as-slice.ensures.value c.of-other.ensures c.in-Equal.ensures in
+    let equal = asked p k c.of-other.result.now c.as_slice.result.now middle c.index.result.now Equal within c.index.ensures c.as_slice.ensures.value c.of-other.ensures c.in-Equal.ensures in
     (found k (entries p) middle (omega arith) equal, omega arith, sym (text_laws.same k (key_at (entries p) middle) equal))
 
 pub loop-low-preserved : goal.loop-low-preserved
@@ -36,7 +36,7 @@ loop-low-preserved c =
     let n = entries_len p in
     let middle = c.loop-low.low + (c.loop-low.high - c.loop-low.low) / 2 in
     let within : middle < vec_len p.links = omega arith in
-    let greater = asked p k c.of-other.result.now c.as-slice.result.now middle c.index.result.now Greater within c.index.ensures c.as-slice.ensures.value c.of-other.ensures c.in-Greater.ensures in
+    let greater = asked p k c.of-other.result.now c.as_slice.result.now middle c.index.result.now Greater within c.index.ensures c.as_slice.ensures.value c.of-other.ensures c.in-Greater.ensures in
     (omega arith, omega arith, raised k (entries p) middle p.rises (omega arith) greater, c.loop-low.invariant.3)
 
 pub returns : goal.returns

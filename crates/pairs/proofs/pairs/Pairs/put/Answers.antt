@@ -29,10 +29,10 @@ pub insert-requires : goal.insert-requires
 insert-requires c = omega (arith, entries_len c.args.self.now, c.in-Err.ensures.1)
 
 -- the memory that is reserved suffices for the bytes
-appended : (c : goal.After-insert) → is_ok c.extend-from-slice.result ≡ true
+appended : (c : goal.After-insert) → is_ok c.extend_from_slice.result ≡ true
 appended c =
     let room : vec_len c.args.self.now.bytes + length c.args.key.now ≤ vec_capacity c.args.self.now.bytes = omega (arith, c.args.self.now.bytes_room) in
-    c.extend-from-slice.ensures.succeeds room
+    c.extend_from_slice.ensures.succeeds room
 
 -- and for the link
 placed : (c : goal.After-insert) → is_ok c.insert.result ≡ true
@@ -41,28 +41,28 @@ placed c =
     c.insert.ensures.succeeds room
 
 -- the pairs then
-after : (c : goal.After-insert) → children_of (vec_items c.extend-from-slice.new.self) (vec_items c.insert.new.self) ≡ insert (entries c.args.self.now) c.in-Err.place (c.args.key.now, c.args.node)
+after : (c : goal.After-insert) → children_of (vec_items c.extend_from_slice.new.self) (vec_items c.insert.new.self) ≡ insert (entries c.args.self.now) c.in-Err.place (c.args.key.now, c.args.node)
 after c =
-    entries_put c.args.self.now (vec_items c.extend-from-slice.new.self) (vec_items c.insert.new.self) c.args.key.now c.args.node c.in-Err.place _
-    (rw (appended c) at c.extend-from-slice.ensures.items)
+    entries_put c.args.self.now (vec_items c.extend_from_slice.new.self) (vec_items c.insert.new.self) c.args.key.now c.args.node c.in-Err.place _
+    (rw (appended c) at c.extend_from_slice.ensures.items)
     (rw (placed c) at c.insert.ensures.items)
     c.len-start.ensures
     refl
     refl
 
-pub invariant-of-self : goal.invariant-of-self
-invariant-of-self c =
+pub invariant_of-self : goal.invariant_of-self
+invariant_of-self c =
     let p = c.args.self.now in
     let k = c.args.key.now in
     let n = c.args.node in
     let i = c.in-Err.place in
     let at = c.in-Err.ensures in
     let e = after c in
-    let bytes = rw (appended c) at c.extend-from-slice.ensures.len in
+    let bytes = rw (appended c) at c.extend_from_slice.ensures.len in
     let links = rw (placed c) at c.insert.ensures.len in
-    let size = vec_len c.extend-from-slice.new.self in
-    let bytes-room : 2048 ≤ vec_capacity c.extend-from-slice.new.self = omega (arith, p.bytes_room, c.extend-from-slice.ensures.capacity) in
-    let links-room : 64 ≤ vec_capacity c.insert.new.self = omega (arith, p.links_room, c.insert.ensures.capacity) in
+    let size = vec_len c.extend_from_slice.new.self in
+    let bytes_room : 2048 ≤ vec_capacity c.extend_from_slice.new.self = omega (arith, p.bytes_room, c.extend_from_slice.ensures.capacity) in
+    let links_room : 64 ≤ vec_capacity c.insert.new.self = omega (arith, p.links_room, c.insert.ensures.capacity) in
     let total : keys_bytes (insert (entries p) i (k, n)) ≡ size = omega (arith, bytes_inserted (entries p) i (k, n), p.full) in
     let full = ap keys_bytes e ∙ total in
     let items = rw (placed c) at c.insert.ensures.items in
@@ -70,7 +70,7 @@ invariant-of-self c =
     let rises = ap keys_rise (e ∙ sym (at.2 n)) ∙ rises_with (k, n) (entries p) at.0 p.rises in
     let short = ap (every key_short) e ∙ every_inserted key_short (entries p) i (k, n) (le-leb (length k) 512 c.if-key-gt-LONGEST.false) p.short in
     let known = ap (every (there 512)) e ∙ every_inserted (there 512) (entries p) i (k, n) (lt-ltb n 512 c.if-node-ge-NODES.false) p.known in
-    (bytes-room, (links-room, (omega arith, (omega arith, (full, (within, (rises, (short, (known, tt)))))))))
+    record { bytes_room = bytes_room; links_room = links_room; few = omega arith; bounded = omega arith; full = full; within = within; rises = rises; short = short; known = known }
 
 pub returns : goal.returns
 returns c =

@@ -4,8 +4,8 @@ use Rattle.model.proofs.Builds.{sound_empty}
 use Rattle.store.proofs.Grows.{model_none, held_none, marked_none}
 use Rattle.store.proofs.store.Store.with_tables.Goals as goal
 
-pub invariant-of-result : goal.invariant-of-result
-invariant-of-result c =
+pub invariant_of-result : goal.invariant_of-result
+invariant_of-result c =
     let p = c.in_ok-nodes.ensures in
     let q = c.in_ok-links.ensures in
     let r = c.in_ok-texts.ensures.0 in

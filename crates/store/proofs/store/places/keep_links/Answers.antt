@@ -11,8 +11,8 @@ use Rattle.store.proofs.store.places.keep_links.Goals as goal
 pub loop-place-init : goal.loop-place-init
 loop-place-init c = (([], (entered_none _ (pool c.args.texts.now), refl)), grows_none _, refl, search rules)
 
-pub keep-text-span-requires : goal.keep-text-span-requires
-keep-text-span-requires c = ?
+pub keep_text-span-requires : goal.keep_text-span-requires
+keep_text-span-requires c = ?
 
 pub loop-place-preserved : goal.loop-place-preserved
 loop-place-preserved c = ?

@@ -13,8 +13,8 @@ use Rattle.store.proofs.texts.TextTable.keep_list.Goals as goal
 pub loop-text-init : goal.loop-text-init
 loop-text-init c = (grows_none _, refl, refl)
 
-pub keep-next-requires : goal.keep-next-requires
-keep-next-requires c =
+pub keep_next-requires : goal.keep_next-requires
+keep_next-requires c =
     let g = ap texts_bytes (left_more (texts_of c.args.list) c.loop-text.at _ c.in-Some.ensures) in
     omega (arith, g, c.loop-text.invariant.1, c.requires)
 
@@ -32,11 +32,11 @@ loop-text-preserved c =
     let rest = drop (c.loop-text.at + 1) (texts_of c.args.list) in
     let g = left_more (texts_of c.args.list) c.loop-text.at _ c.in-Some.ensures in
     let n = ap texts_bytes g in
-    let t = c.keep-next.ensures.texts in
+    let t = c.keep_next.ensures.texts in
     let a = append_assoc (listed (pool c.loop-text.self)) (c.in-Some.text.now ∷ []) rest in
     let i = c.loop-text.invariant.2 in (
-      grows_on _ (pool c.loop-text.self) _ c.loop-text.invariant.0 c.keep-next.ensures.grows,
-      omega (arith, n, c.keep-next.ensures.used, c.loop-text.invariant.1),
+      grows_on _ (pool c.loop-text.self) _ c.loop-text.invariant.0 c.keep_next.ensures.grows,
+      omega (arith, n, c.keep_next.ensures.used, c.loop-text.invariant.1),
       cc,
     )
 

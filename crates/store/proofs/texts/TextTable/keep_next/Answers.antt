@@ -8,25 +8,25 @@ use Rattle.store.proofs.Pieces.{every_push}
 use Rattle.store.proofs.Grown.{grows_by, grows_on, listed_next}
 use Rattle.store.proofs.texts.TextTable.keep_next.Goals as goal
 
-pub invariant-of-self : goal.invariant-of-self
-invariant-of-self c =
-    let b = c.keep-text-span.new.self in
-    let s = c.keep-text-span.result in
-    let e : every (span_in (length (vec_items b.bytes))) (vec_items c.push-reserved.new.self) ≡ true =
-    rw c.push-reserved.ensures.items (every_push _ (vec_items b.spans) (s ∷ []) b.inside (and_from _ true c.keep-text-span.ensures.inside refl))
+pub invariant_of-self : goal.invariant_of-self
+invariant_of-self c =
+    let b = c.keep_text-span.new.self in
+    let s = c.keep_text-span.result in
+    let e : every (span_in (length (vec_items b.bytes))) (vec_items c.push_reserved.new.self) ≡ true =
+    rw c.push_reserved.ensures.items (every_push _ (vec_items b.spans) (s ∷ []) b.inside (and_from _ true c.keep_text-span.ensures.inside refl))
     in
     (b.bytes_room, (search rules, (b.elems_room, (search rules, (e, tt)))))
 
 pub returns : goal.returns
 returns c =
-    let b = c.keep-text-span.new.self in
-    let p = c.push-reserved.ensures.items in
+    let b = c.keep_text-span.new.self in
+    let p = c.push_reserved.ensures.items in
     record {
       grows =
-          grows_on _ (pool b) _ c.keep-text-span.ensures.grows
-          (grows_by (pool b) _ [] _ (c.keep-text-span.result ∷ []) _ [] (sym (append-nil (vec_items b.bytes))) p (sym (append-nil (vec_items b.elems))));
+          grows_on _ (pool b) _ c.keep_text-span.ensures.grows
+          (grows_by (pool b) _ [] _ (c.keep_text-span.result ∷ []) _ [] (sym (append-nil (vec_items b.bytes))) p (sym (append-nil (vec_items b.elems))));
       used = search (rules, length-append);
       texts =
-          listed_next (pool b) _ c.keep-text-span.result p
-          ∙ (let a = c.keep-text-span.ensures.texts in let t = c.keep-text-span.ensures.text in cc);
+          listed_next (pool b) _ c.keep_text-span.result p
+          ∙ (let a = c.keep_text-span.ensures.texts in let t = c.keep_text-span.ensures.text in cc);
     }

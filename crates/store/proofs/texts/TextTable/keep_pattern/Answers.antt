@@ -8,8 +8,8 @@ use Rattle.store.proofs.Pieces.{part_new}
 use Rattle.store.proofs.Grown.{grows_by}
 use Rattle.store.proofs.texts.TextTable.keep_pattern.Goals as goal
 
-pub invariant-of-self : goal.invariant-of-self
-invariant-of-self c =
+pub invariant_of-self : goal.invariant_of-self
+invariant_of-self c =
     let b = c.args.self.now in
     let l = length-map c.args.pattern.now elem_of in
     (b.bytes_room, (b.spans_room, (search rules, (search (rules, length-append), (b.inside, tt)))))
@@ -22,7 +22,7 @@ returns c =
     let b = c.args.self.now in
     let t = c.args.pattern.now in
     let l = length-map t elem_of in
-    let e : vec_items c.extend-from-slice.new.self ≡ vec_items b.elems ++ t = search rules in
+    let e : vec_items c.extend_from_slice.new.self ≡ vec_items b.elems ++ t = search rules in
     let s : c.len-first.result ≡ length (vec_items b.elems) = search rules in
     record {
       grows = grows_by (pool b) _ [] _ [] _ t (sym (append-nil (vec_items b.bytes))) (sym (append-nil (vec_items b.spans))) e;

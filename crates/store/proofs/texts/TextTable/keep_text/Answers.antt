@@ -5,17 +5,17 @@ use Rattle.store.proofs.Pieces.{part_new, every_stays}
 use Rattle.store.proofs.Grown.{grows_by, span_in_more, listed_same}
 use Rattle.store.proofs.texts.TextTable.keep_text.Goals as goal
 
-pub invariant-of-self : goal.invariant-of-self
-invariant-of-self c =
+pub invariant_of-self : goal.invariant_of-self
+invariant_of-self c =
     let b = c.args.self.now in
-    let l : length (vec_items b.bytes) ≤ length (vec_items c.extend-from-slice.new.self) = search (rules, length-append) in
+    let l : length (vec_items b.bytes) ≤ length (vec_items c.extend_from_slice.new.self) = search (rules, length-append) in
     (search rules, (b.spans_room, (b.elems_room, (search rules, (every_stays _ _ (span_in_more _ _ l) (vec_items b.spans) b.inside, tt)))))
 
 pub returns : goal.returns
 returns c =
     let b = c.args.self.now in
     let t = c.args.text.now in
-    let e : vec_items c.extend-from-slice.new.self ≡ vec_items b.bytes ++ t = search rules in
+    let e : vec_items c.extend_from_slice.new.self ≡ vec_items b.bytes ++ t = search rules in
     let s : c.len-start.result ≡ length (vec_items b.bytes) = search rules in
     record {
       grows = grows_by (pool b) _ t _ [] _ [] e (sym (append-nil (vec_items b.spans))) (sym (append-nil (vec_items b.elems)));

@@ -6,8 +6,8 @@ use Rattle.store.proofs.texts.TextTable.keep_unknown.Goals as goal
 
 pub returns : goal.returns
 returns c =
-    let typed = c.keep-annotation-type-annotation in
-    let texted = c.keep-text-name in
+    let typed = c.keep_annotation-type_annotation in
+    let texted = c.keep_text-name in
     let mid = pool typed.new.self in
     let end = pool texted.new.self in
     let o = typed.result in
