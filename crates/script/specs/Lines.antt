@@ -2,7 +2,7 @@
 use Rattle.std.specs.Prelude.{◌≡◌, ℕ, cond, ◌⊎◌, List, [], ◌∷◌, ◌++◌, Some, None, Option, ◌==◌, ◌≢◌}
 use Rattle.std.specs.Borrow.{Bor}
 use Rattle.std.specs.Option.{option_map}
-use Rattle.std.specs.List.{AllByRecursion as All}
+use Rattle.std.specs.List.{AllByRecursion}
 use Rattle.terms.specs.Terms.{Text}
 
 -- the bytes that two references point to
@@ -42,4 +42,4 @@ with_first (Some p) = p.0 ∷ lines p.1
 -- a line without line feeds, then a line feed and the rest, or nothing
 abbrev pub Cut : List ℕ → Option (Text × List ℕ) → Type 0
 Cut bs None = bs ≡ []
-Cut bs (Some p) = All (λ b. b ≢ 10) p.0 × ((bs ≡ p.0 ++ 10 ∷ p.1) ⊎ ((bs ≡ p.0) × (p.1 ≡ [])))
+Cut bs (Some p) = AllByRecursion (λ b. b ≢ 10) p.0 × ((bs ≡ p.0 ++ 10 ∷ p.1) ⊎ ((bs ≡ p.0) × (p.1 ≡ [])))

@@ -1,5 +1,6 @@
 //! Numbered nodes over inner tables of nodes, links and texts.
 #![tactic(auto)]
+
 pub mod branches;
 pub mod links;
 pub mod location;
