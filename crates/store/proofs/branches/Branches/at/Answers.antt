@@ -7,8 +7,8 @@ use Rattle.store.proofs.branches.Branches.at.Goals as goal
 pub bounds-numbers-place : goal.bounds-numbers-place
 bounds-numbers-place c = omega (arith, c.requires, ap (λ b. length (branches_of b)) c.in-Plain.is, length_numbered c.in-Plain.numbers.now)
 
-pub offset-bounds-numbers-place : goal.offset-bounds-numbers-place
-offset-bounds-numbers-place c =
+pub offset_bounds-numbers-place : goal.offset_bounds-numbers-place
+offset_bounds-numbers-place c =
     let h : c.args.place < length c.in-Plain.numbers.now = omega (arith, c.requires, ap (λ b. length (branches_of b)) c.in-Plain.is, length_numbered c.in-Plain.numbers.now) in
     search rules
 

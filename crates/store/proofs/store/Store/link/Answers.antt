@@ -7,8 +7,8 @@ get-node-requires c = ?
 pub returns-then-place-node : goal.returns-then-place-node
 returns-then-place-node c = ?
 
-pub overflow-add-node : goal.overflow-add-node
-overflow-add-node c = ?
+pub overflow_add-node : goal.overflow_add-node
+overflow_add-node c = ?
 
 pub get-link-requires : goal.get-link-requires
 get-link-requires c = ?

@@ -9,7 +9,7 @@ invariant_of-result c =
     let p = c.in_ok-nodes.ensures in
     let q = c.in_ok-links.ensures in
     let r = c.in_ok-texts.ensures.0 in
-    (held_none _ _ _ p q r, (∣ marked_none _ _ _ p q r ∣₁, (∣ subst Sound (sym (model_none _ _ _ p q r)) sound_empty ∣₁, tt)))
+    record { held = held_none _ _ _ p q r; marked = ∣ marked_none _ _ _ p q r ∣₁; sound = ∣ subst Sound (sym (model_none _ _ _ p q r)) sound_empty ∣₁ }
 
 pub returns : goal.returns
 returns c = model_none _ _ _ c.in_ok-nodes.ensures c.in_ok-links.ensures c.in_ok-texts.ensures.0

@@ -18,8 +18,8 @@ keep_next-requires c =
     let g = ap texts_bytes (left_more (texts_of c.args.list) c.loop-text.at _ c.in-Some.ensures) in
     omega (arith, g, c.loop-text.invariant.1, c.requires)
 
-pub overflow-add-at : goal.overflow-add-at
-overflow-add-at c =
+pub overflow_add-at : goal.overflow_add-at
+overflow_add-at c =
     let b = place_below (texts_of c.args.list) c.loop-text.at _ c.in-Some.ensures in
     let l = list_long (texts_of c.args.list) in
     search rules
@@ -40,8 +40,8 @@ loop-text-preserved c =
       cc,
     )
 
-pub overflow-cast-result : goal.overflow-cast-result
-overflow-cast-result c = let l = list_long (texts_of c.args.list) in search rules
+pub overflow_cast-result : goal.overflow_cast-result
+overflow_cast-result c = let l = list_long (texts_of c.args.list) in search rules
 
 pub returns : goal.returns
 returns c =

@@ -19,17 +19,17 @@ returns-in-Long c =
 pub returns-in-Entity : goal.returns-in-Entity
 returns-in-Entity c =
     let mid = pool c.keep_name-name.new.self in
-    let end = pool c.keep-text_in-Entity.new.self in
+    let end = pool c.keep_text-in-Entity.new.self in
     let p = c.keep_name-name.result in
-    let same = c.keep-text_in-Entity.ensures.texts in
+    let same = c.keep_text-in-Entity.ensures.texts in
     let i = ap literal_of c.in-Entity.is in
     let b = ap literal_bytes i in
     let a = name_same mid end p same in
     let n = c.keep_name-name.ensures.name in
-    let t = c.keep-text_in-Entity.ensures.text in
+    let t = c.keep_text-in-Entity.ensures.text in
     record {
-      grows = grows_on _ mid _ c.keep_name-name.ensures.grows c.keep-text_in-Entity.ensures.grows;
-      used = omega (arith, b, c.keep_name-name.ensures.used, c.keep-text_in-Entity.ensures.used);
+      grows = grows_on _ mid _ c.keep_name-name.ensures.grows c.keep_text-in-Entity.ensures.grows;
+      used = omega (arith, b, c.keep_name-name.ensures.used, c.keep_text-in-Entity.ensures.used);
       literal = cc;
-      inside = and_from _ _ (name_in_same mid end p same c.keep_name-name.ensures.inside) c.keep-text_in-Entity.ensures.inside;
+      inside = and_from _ _ (name_in_same mid end p same c.keep_name-name.ensures.inside) c.keep_text-in-Entity.ensures.inside;
     }

@@ -15,7 +15,7 @@ invariant_of-self c =
     let e : every (span_in (length (vec_items b.bytes))) (vec_items c.push_reserved.new.self) ≡ true =
     rw c.push_reserved.ensures.items (every_push _ (vec_items b.spans) (s ∷ []) b.inside (and_from _ true c.keep_text-span.ensures.inside refl))
     in
-    (b.bytes_room, (search rules, (b.elems_room, (search rules, (e, tt)))))
+    record { bytes_room = b.bytes_room; spans_room = search rules; elems_room = b.elems_room; within = search rules; inside = e }
 
 pub returns : goal.returns
 returns c =

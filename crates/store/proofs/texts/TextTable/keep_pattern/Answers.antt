@@ -12,10 +12,10 @@ pub invariant_of-self : goal.invariant_of-self
 invariant_of-self c =
     let b = c.args.self.now in
     let l = length-map c.args.pattern.now elem_of in
-    (b.bytes_room, (b.spans_room, (search rules, (search (rules, length-append), (b.inside, tt)))))
+    record { bytes_room = b.bytes_room; spans_room = b.spans_room; elems_room = search rules; within = search (rules, length-append); inside = b.inside }
 
-pub overflow-cast-result : goal.overflow-cast-result
-overflow-cast-result c = let l = length-map c.args.pattern.now elem_of in search rules
+pub overflow_cast-result : goal.overflow_cast-result
+overflow_cast-result c = let l = length-map c.args.pattern.now elem_of in search rules
 
 pub returns : goal.returns
 returns c =

@@ -9,7 +9,7 @@ pub invariant_of-self : goal.invariant_of-self
 invariant_of-self c =
     let b = c.args.self.now in
     let l : length (vec_items b.bytes) ≤ length (vec_items c.extend_from_slice.new.self) = search (rules, length-append) in
-    (search rules, (b.spans_room, (b.elems_room, (search rules, (every_stays _ _ (span_in_more _ _ l) (vec_items b.spans) b.inside, tt)))))
+    record { bytes_room = search rules; spans_room = b.spans_room; elems_room = b.elems_room; within = search rules; inside = every_stays _ _ (span_in_more _ _ l) (vec_items b.spans) b.inside }
 
 pub returns : goal.returns
 returns c =
