@@ -1,5 +1,5 @@
 -- What is read of a store's rows, said of its model.
-use Rattle.std.proofs.Common.{◌≡◌, ℕ, zero, suc, ◌+◌, ◌<◌, ◌≤◌, Bool, true, List, [], ◌∷◌, map, length, get_or, take, drop, None, sym, refl, ap, ◌∙◌, arith, length-drop}
+use Rattle.std.proofs.Common.{◌≡◌, ℕ, zero, suc, ◌+◌, ◌<◌, ◌≤◌, Bool, true, false, cond, ltb, List, [], ◌∷◌, map, length, get_or, take, drop, None, Ok, Err, Result, sym, refl, ap, ◌∙◌, arith, length-drop, ltb-true}
 use native.Mathlib.Decide.{dec_lt}
 use lib.ListN.{length-map}
 use Rattle.std.proofs.lemmas.List.{get_or-map, get_or-take, get_or-drop, get_or_past, length-take-le}
@@ -7,10 +7,14 @@ use Rattle.std.proofs.lemmas.Bool.{and_parts}
 use Rattle.terms.specs.Terms.{Leaf}
 use Rattle.terms.specs.Shape.{Shape, size}
 use Rattle.terms.specs.Bank.{Child, NodeM, Bank, nothing, node_at, shapes, shape_at}
+use Rattle.terms.specs.Refusals.{known}
+use Rattle.terms.specs.declared.refusal.Refusal.{Refusal}
+use Rattle.terms.specs.declared.refusal.Refusal.TheVariants as refusal
 use Rattle.terms.proofs.BankShapes.{shapes_length, closed_at}
 use Rattle.model.specs.Checks.{every}
 use Rattle.model.specs.Build.{Sound}
 use Rattle.model.proofs.Rows.{all_at}
+use Rattle.model.proofs.Small.{ok_err}
 use Rattle.pairs.specs.declared.link.Link.{Link}
 use Rattle.pairs.specs.Links.{child_of, children_of}
 use Rattle.store.specs.declared.parts.Node.{Node}
@@ -26,6 +30,14 @@ pub every_at : {X : Type 0} (p : X → Bool) (xs : List X) (i : ℕ) (d : X) →
 every_at p [] i d h e = absurd (omega arith)
 every_at p (x ∷ xs) zero d h e = (and_parts (p x) (every p xs) e).0
 every_at p (x ∷ xs) (suc i) d h e = every_at p xs i d (omega arith) (and_parts (p x) (every p xs) e).1
+
+-- a number that is not refused is a node's, and one that is refused is none
+passed : (b : Bool) (u : Unit {0}) → ◌≡◌ {A = Result (Unit {0}) Refusal} (Ok u) (cond b (Ok tt) (Err refusal.Node)) → b ≡ true
+passed true u e = refl
+passed false u e = ok_err u refusal.Node e
+
+pub known_below : (i n : ℕ) (u : Unit {0}) → Ok u ≡ known i n → i < n
+known_below i n u e = ltb-true i n (passed (ltb i n) u e)
 
 length_part : {X : Type 0} (xs : List X) (p : Part) → p.first + p.count ≤ length xs → length (part xs p) ≡ p.count
 length_part xs p h = length-take-le p.count (drop p.first xs) (simp length-drop (omega arith))
