@@ -10,6 +10,7 @@ pub mod Stays
 pub mod Lookups
 pub mod Grows
 pub mod Places
+pub mod Calls
 pub mod Folds
 pub mod Entries
 pub mod Asked

@@ -1,6 +1,7 @@
 -- What a store is after a node was put into its tables.
 use Rattle.std.proofs.Common.{◌≡◌, ℕ, ◌+◌, ◌≤◌, Bool, true, List, [], ◌∷◌, ◌++◌, map, length, sym, refl, ap, ◌∙◌, subst, arith, length-append}
 use mathlib.Core.Logic.{∥∥₁_map}
+use lib.ListN.{length-map}
 use Rattle.terms.specs.Terms.{Leaf}
 use Rattle.terms.specs.Shape.{size}
 use Rattle.terms.specs.Bank.{Child, NodeM, Bank, shape_of, shapes}
@@ -14,8 +15,11 @@ use Rattle.pairs.specs.Links.{child_of}
 use Rattle.store.specs.declared.parts.Node.{Node}
 use Rattle.store.specs.Spans.{span_in}
 use Rattle.store.specs.Pools.{Pool, plus, used, Grows}
-use Rattle.store.specs.Kept.{leaf_kept, leaf_in}
+use Rattle.store.specs.Kept.{KeptLeaf, leaf_kept, leaf_in}
 use Rattle.store.specs.Tables.{place_of, key_in, mark_in, model_of, Held, Marked}
+use Rattle.store.specs.Stores.{Entered}
+use Rattle.store.proofs.Grown.{grows_on}
+use Rattle.store.proofs.Leafs.{leaf_in_stays, leaf_stays}
 use Rattle.store.proofs.Stays.{mark_from}
 use Rattle.store.proofs.Grows.{model_push, held_push, marked_push}
 
@@ -69,3 +73,57 @@ module _ (nodes nodes' : List Node) (links links' ls : List Link) (s s' : Pool) 
 
     pub placed_sound : Fitting (model_of nodes links s) node → ∥ Sound (model_of nodes links s) ∥₁ → ∥ Sound (model_of nodes' links' s') ∥₁
     placed_sound fits was = ∥∥₁_map was (λ w. subst Sound (sym placed_model) (sound_more (model_of nodes links s) node w fits))
+
+-- a leaf that was kept before the keys
+module _ (s s' : Pool) (grows : Grows s s') (k : KeptLeaf) (h : leaf_in s k ≡ true) where
+  in_later : leaf_in s' k ≡ true
+  in_later = rw grows.1 (leaf_in_stays s grows.0 k h)
+
+  leaf_later : every (span_in (length s.bytes)) s.spans ≡ true → leaf_kept s' k ≡ leaf_kept s k
+  leaf_later lists = rw grows.1 (leaf_stays s grows.0 lists k h)
+
+-- the row x as a node of this leaf and these children
+abbrev pub node_for : Node → Leaf → List Child → NodeM
+node_for x l cs = record { kind = kind_code x.kind; leaf = l; children = cs; place = place_of x.place }
+
+-- what is so after the node n was put last
+pub record Placed (nodes : List Node) (links : List Link) (s : Pool) (m : Bank) (n : NodeM) : Type 0 where
+  pub held : Held nodes links s
+  pub marked : ∥ Marked nodes links s ∥₁
+  pub sound : ∥ Sound (model_of nodes links s) ∥₁
+  pub after : model_of nodes links s ≡ m ++ n ∷ []
+
+-- the leaf is kept first, from s to t, and then the links, to u
+pub placed : (nodes nodes' : List Node) (links links' : List Link) (s t u : Pool) (l : Leaf) (cs : List Child) (x : Node)
+    → Held nodes links s
+    → ∥ Marked nodes links s ∥₁
+    → ∥ Sound (model_of nodes links s) ∥₁
+    → every (span_in (length s.bytes)) s.spans ≡ true
+    → every (span_in (length t.bytes)) t.spans ≡ true
+    → nodes' ≡ nodes ++ x ∷ []
+    → Entered links links' u cs
+    → Grows s t
+    → Grows t u
+    → leaf_kept t x.leaf ≡ l
+    → leaf_in t x.leaf ≡ true
+    → x.links.first ≡ length links
+    → x.links.count ≡ length cs
+    → x.mark.bytes ≡ length s.bytes
+    → x.mark.spans ≡ length s.spans
+    → x.mark.elems ≡ length s.elems
+    → x.size ≡ size (shape_of (shapes (model_of nodes links s)) (node_for x l cs))
+    → used t ≡ used s + leaf_bytes l
+    → used u ≡ used t + keys_bytes cs
+    → Fitting (model_of nodes links s) (node_for x l cs)
+    → Placed nodes' links' u (model_of nodes links s) (node_for x l cs)
+placed nodes nodes' links links' s t u l cs x held marked sound lists lists' en (ls, (el, kids, keys)) g h kept inside first many mb ms me size more more' fits =
+    let grows = grows_on s t u g h in
+    let leaf = leaf_later t u h x.leaf inside lists' ∙ kept in
+    let inside' = in_later t u h x.leaf inside in
+    let many' : x.links.count ≡ length ls = many ∙ sym (ap length kids) ∙ length-map ls (child_of u.bytes) in
+    record {
+      held = placed_held nodes nodes' links links' ls s u l cs x held lists en el grows leaf inside' kids keys first many' mb ms me size (omega (arith, more, more'));
+      marked = placed_marked nodes nodes' links links' ls s u l cs x held lists en el grows leaf inside' kids keys first many' mb ms me marked;
+      sound = placed_sound nodes nodes' links links' ls s u l cs x held lists en el grows leaf inside' kids keys first many' mb ms me fits sound;
+      after = placed_model nodes nodes' links links' ls s u l cs x held lists en el grows leaf inside' kids keys first many' mb ms me;
+    }
