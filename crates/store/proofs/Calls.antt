@@ -12,7 +12,7 @@ use Rattle.model.specs.Checks.{Check, first_failed, every, there, node_fits}
 use Rattle.model.specs.Costs.{leaf_bytes}
 use Rattle.model.specs.Made.{folded_as, folded}
 use Rattle.model.specs.Build.{node_short, light, has_room, asks, add, built_plain, LongOk, Fitting}
-use Rattle.model.proofs.Small.{some_none, some_same, ok_err, ok_same}
+use Rattle.model.proofs.Small.{some_none, ok_err, ok_same}
 use Rattle.model.proofs.Rows.{all_at}
 use Rattle.model.proofs.Fits.{every_all}
 use Rattle.model.proofs.Builds.{count_gather, node_ok}

@@ -1,5 +1,5 @@
 -- Boolean literals, and what And and Or over two of them come to.
-use Rattle.std.proofs.Common.{◌≡◌, ℕ, ◌<◌, Bool, List, [], ◌∷◌, length, get_or, Some, None, Option, sym, refl, ap, ◌∙◌, arith}
+use Rattle.std.proofs.Common.{◌≡◌, ℕ, ◌<◌, Bool, List, [], ◌∷◌, length, get_or, None, Option, refl, ap, ◌∙◌, arith}
 use Rattle.terms.specs.Shape.{Shape}
 use Rattle.terms.specs.Fold.{leaf_bool, as_bool, join, fold}
 use Rattle.terms.specs.Bank.{Child, NodeM, nothing, gather, shape_at}

@@ -1,14 +1,14 @@
 -- One more row in each table is one more node in the model.
-use Rattle.std.proofs.Common.{◌≡◌, ℕ, ◌+◌, ◌<◌, ◌≤◌, Bool, true, List, [], ◌∷◌, ◌++◌, map, length, get_or, take, sym, refl, ap, ◌∙◌, subst, arith, length-append}
+use Rattle.std.proofs.Common.{◌≡◌, ℕ, ◌+◌, ◌<◌, ◌≤◌, true, List, [], ◌∷◌, ◌++◌, map, length, get_or, take, sym, refl, ap, ◌∙◌, subst, arith, length-append}
 use native.Mathlib.Decide.{dec_lt}
 use lib.ListN.{length-map}
 use Rattle.std.proofs.lemmas.List.{map-append, map_push, take-append-le, take_at, length_push, get_or_append_left, get_or_push}
 use Rattle.std.proofs.lemmas.Bool.{and_from}
-use Rattle.terms.specs.Shape.{Shape, size}
+use Rattle.terms.specs.Shape.{size}
 use Rattle.terms.specs.Bank.{Child, NodeM, Bank, shape_of, shapes}
 use Rattle.terms.proofs.Tables.{table_append}
 use Rattle.model.specs.Checks.{every}
-use Rattle.model.specs.Costs.{links_used, bytes_used, node_bytes}
+use Rattle.model.specs.Costs.{node_bytes}
 use Rattle.model.proofs.Builds.{links_more as links-push, bytes_more as bytes-push}
 use Rattle.codes.specs.Codes.{kind_code}
 use Rattle.pairs.specs.declared.link.Link.{Link}

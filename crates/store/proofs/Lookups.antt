@@ -1,5 +1,5 @@
 -- What is read of a store's rows, said of its model.
-use Rattle.std.proofs.Common.{◌≡◌, ℕ, zero, suc, ◌+◌, ◌<◌, ◌≤◌, Bool, true, false, cond, ltb, List, [], ◌∷◌, map, length, get_or, take, drop, None, Ok, Err, Result, sym, refl, ap, ◌∙◌, arith, length-drop, ltb-true}
+use Rattle.std.proofs.Common.{◌≡◌, ℕ, zero, suc, ◌+◌, ◌<◌, ◌≤◌, Bool, true, false, cond, ltb, List, [], ◌∷◌, map, length, get_or, drop, None, Ok, Err, Result, sym, refl, ap, ◌∙◌, arith, length-drop, ltb-true}
 use native.Mathlib.Decide.{dec_lt}
 use lib.ListN.{length-map}
 use Rattle.std.proofs.lemmas.List.{get_or-map, get_or-take, get_or-drop, get_or_past, length-take-le}
@@ -22,7 +22,7 @@ use Rattle.store.specs.declared.parts.Part.{Part}
 use Rattle.store.specs.Spans.{part}
 use Rattle.store.specs.Pools.{Pool}
 use Rattle.store.specs.Kept.{leaf_in}
-use Rattle.store.specs.Tables.{node_of, mark_in, node_in, key_in, size_of, model_of, Held}
+use Rattle.store.specs.Tables.{node_of, mark_in, node_in, size_of, model_of, Held}
 use Rattle.store.proofs.Truths.{less_told}
 use Rattle.store.proofs.Stays.{node_parts}
 

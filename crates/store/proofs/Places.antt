@@ -1,5 +1,5 @@
 -- What a store is after a node was put into its tables.
-use Rattle.std.proofs.Common.{◌≡◌, ℕ, ◌+◌, ◌≤◌, Bool, true, List, [], ◌∷◌, ◌++◌, map, length, sym, refl, ap, ◌∙◌, subst, arith, length-append}
+use Rattle.std.proofs.Common.{◌≡◌, ◌+◌, true, List, [], ◌∷◌, ◌++◌, map, length, sym, ap, ◌∙◌, subst, arith, length-append}
 use mathlib.Core.Logic.{∥∥₁_map}
 use lib.ListN.{length-map}
 use Rattle.terms.specs.Terms.{Leaf}

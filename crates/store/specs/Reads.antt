@@ -1,11 +1,10 @@
 -- What is read of a store.
-use Rattle.std.specs.Prelude.{◌≡◌, ℕ, ◌<◌, ◌≤◌, cond, ltb, List, length, Ok, Err, Option, Result}
+use Rattle.std.specs.Prelude.{◌≡◌, ℕ, ◌<◌, ◌≤◌, List, length, Ok, Err, Option, Result}
 use Rattle.std.specs.Borrow.{Bor}
 use Rattle.std.specs.List.{slice_get}
 use Rattle.std.specs.Option.{option_map}
-use Rattle.terms.specs.Terms.{Leaf}
 use Rattle.terms.specs.Shape.{size}
-use Rattle.terms.specs.Bank.{Loc, Child, NodeM, Bank, node_at, shape_at}
+use Rattle.terms.specs.Bank.{Bank, node_at, shape_at}
 use Rattle.terms.specs.declared.refusal.Refusal.{Refusal}
 use Rattle.terms.specs.declared.refusal.Refusal.TheVariants as refusal
 use Rattle.codes.specs.Codes.{kind_code}

@@ -1,4 +1,4 @@
-use Rattle.std.proofs.Common.{◌≡◌, ◌<◌, [], length, get_or, sym, ap, ◌∙◌, arith, rules}
+use Rattle.std.proofs.Common.{◌<◌, [], length, get_or, sym, ap, ◌∙◌, arith, rules}
 use Rattle.pairs.specs.Entries.{entries}
 use Rattle.store.specs.Branches.{branches_of, child_now}
 use Rattle.store.proofs.Children.{length_numbered, numbered_at, nth_some, nth_none}

@@ -1,4 +1,4 @@
-use Rattle.std.proofs.Common.{◌≡◌, ℕ, ◌<◌, ◌≤◌, true, false, ltb, [], length, get_or, sym, refl, ap, ◌∙◌, rules}
+use Rattle.std.proofs.Common.{◌≡◌, ◌<◌, ◌≤◌, true, false, ltb, [], length, get_or, refl, ap, ◌∙◌, rules}
 use Rattle.terms.specs.Bank.{Child}
 use Rattle.model.specs.Checks.{every, there}
 use Rattle.store.specs.Branches.{branches_of}

@@ -1,4 +1,4 @@
-use Rattle.std.proofs.Common.{◌≡◌, ℕ, ◌<◌, ◌≤◌, [], length, get_or, vec_items, refl, ap, ◌∙◌, arith, rules, ltb-true}
+use Rattle.std.proofs.Common.{◌<◌, ◌≤◌, [], length, get_or, vec_items, refl, ap, arith, rules, ltb-true}
 use Rattle.terms.specs.Shape.{size}
 use Rattle.terms.specs.Bank.{Child, nothing, shapes}
 use Rattle.model.specs.Checks.{every, there}

@@ -1,6 +1,6 @@
-use Rattle.std.proofs.Common.{◌≡◌, length, sym, ap, ◌∙◌}
+use Rattle.std.proofs.Common.{length, sym, ap, ◌∙◌}
 use Rattle.terms.specs.Kinds.{kind}
-use Rattle.codes.specs.Codes.{kind_code, children_of}
+use Rattle.codes.specs.Codes.{kind_code}
 use Rattle.store.proofs.Children.{fit_plain, fit_numbered}
 use Rattle.store.proofs.store.builds.suit.Goals as goal
 
