@@ -9,3 +9,77 @@ pub mod parts;
 pub mod store;
 pub mod texts;
 pub mod view;
+
+#[cfg(test)]
+mod tests {
+    use crate::store::Store;
+    use codes::kind::Kind;
+    use leaves::leaf::{Leaf, boolean, nothing};
+    use leaves::literal::Unknown;
+    use pairs::pairs::Pairs;
+    use terms::refusal::Refusal;
+
+    // Adds a blank without a type, and says its number, or a number that no node has.
+    fn blank(store: &mut Store, name: &[u8]) -> u32 {
+        let unknown = Leaf::Unknown(Unknown {
+            name,
+            type_annotation: None,
+        });
+        match store.build(Kind::Unknown, unknown, &[], None) {
+            Ok(number) => number,
+            Err(_) => u32::MAX,
+        }
+    }
+
+    // Whether the node is a boolean literal.
+    fn is_literal(store: &Store, number: u32) -> bool {
+        match store.view(number) {
+            Ok(view) => matches!(view.kind, Kind::Lit),
+            Err(_) => false,
+        }
+    }
+
+    #[test]
+    fn paid_and_tested(rt: HostRuntime) {
+        let Ok(mut store) = Store::new(rt.alloc()) else {
+            panic!(rt; "no memory");
+        };
+        let paid = blank(&mut store, b"paid");
+        let tested = blank(&mut store, b"tested");
+        let both = store.build(Kind::And, nothing(), &[paid, tested], None);
+        assert!(rt; matches!(both, Ok(2)));
+        assert!(rt; matches!(store.link(2, 1), Ok(Some((_, 1)))));
+        assert!(rt; matches!(store.link(2, 2), Ok(None)));
+        assert!(rt; matches!(store.view(3), Err(Refusal::Node)));
+        assert_eq!(rt; store.count(), 3);
+    }
+
+    #[test]
+    fn literals_fold(rt: HostRuntime) {
+        let Ok(mut store) = Store::new(rt.alloc()) else {
+            panic!(rt; "no memory");
+        };
+        let yes = store.build(Kind::Lit, boolean(true), &[], None);
+        assert!(rt; matches!(yes, Ok(0)));
+        let both = store.build(Kind::And, nothing(), &[0, 0], None);
+        assert!(rt; matches!(both, Ok(1)));
+        assert!(rt; is_literal(&store, 1));
+        let missing = store.build(Kind::And, nothing(), &[0, 2], None);
+        assert!(rt; matches!(missing, Err(Refusal::Node)));
+        assert_eq!(rt; store.count(), 2);
+    }
+
+    #[test]
+    fn record_of_a_pair(rt: HostRuntime) {
+        let Ok(mut store) = Store::new(rt.alloc()) else {
+            panic!(rt; "no memory");
+        };
+        let Ok(mut pairs) = Pairs::new(rt.alloc()) else {
+            panic!(rt; "no memory");
+        };
+        let paid = blank(&mut store, b"paid");
+        assert!(rt; pairs.put(b"k", paid).is_ok());
+        assert!(rt; matches!(store.record(&pairs, None), Ok(1)));
+        assert!(rt; matches!(store.link(1, 0), Ok(Some((b"k", 0)))));
+    }
+}
