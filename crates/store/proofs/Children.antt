@@ -1,6 +1,7 @@
 -- Children as a loop goes through them.
 use Rattle.std.proofs.Common.{◌≡◌, ℕ, zero, suc, ◌+◌, ◌<◌, ◌≤◌, Bool, true, false, ◌&&◌, eqb, leb, List, [], ◌∷◌, length, get_or, drop, Some, None, sym, refl, ap, ◌∙◌, arith}
 use borrow.Author.Tests.{lt-leb}
+use Rattle.std.proofs.Math.Bool.{and-true}
 use Rattle.std.proofs.lemmas.Bool.{and_right}
 use Rattle.std.specs.List.{slice_get}
 use Rattle.std.proofs.lemmas.List.{drop_more, drop_all}
@@ -68,11 +69,7 @@ rise_numbered [] = refl
 rise_numbered (i ∷ []) = refl
 rise_numbered (i ∷ j ∷ is) = and_right _ false refl ∙ sym (lt-leb (length (i ∷ j ∷ is)) 1 (omega arith))
 
-and_true : (b : Bool) → (b && true) ≡ b
-and_true true = refl
-and_true false = refl
-
 pub fit_numbered : (m : Children) (is : List ℕ) → (count_fits m (length (numbered is)) && keys_fit m (numbered is)) ≡ fit_plain m (length is)
-fit_numbered (exactly n) is = ap (λ b. eqb (length (numbered is)) n && b) (keyless_numbered is) ∙ and_true _ ∙ ap (λ k. eqb k n) (length_numbered is)
-fit_numbered many is = ap (λ b. leb (length (numbered is)) 64 && b) (keyless_numbered is) ∙ and_true _ ∙ ap (λ k. leb k 64) (length_numbered is)
+fit_numbered (exactly n) is = ap (λ b. eqb (length (numbered is)) n && b) (keyless_numbered is) ∙ and-true _ ∙ ap (λ k. eqb k n) (length_numbered is)
+fit_numbered many is = ap (λ b. leb (length (numbered is)) 64 && b) (keyless_numbered is) ∙ and-true _ ∙ ap (λ k. leb k 64) (length_numbered is)
 fit_numbered keyed is = rise_numbered is

@@ -29,7 +29,6 @@ impl TextTable {
         })
     }
 
-    // Whether so many bytes more can be kept.
     // Whether there is room for a leaf of so many bytes and keys of so many.
     pub(crate) fn has_room(&self, leaf: usize, keys: usize) -> bool
         ensures { result ≡ nat_le (used (pool self.now) + (leaf + keys)) 16384 }
