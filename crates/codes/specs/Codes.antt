@@ -1,6 +1,7 @@
 -- The numbers of kinds, variables, slots and operators.
-use Rattle.std.specs.Prelude.{ℕ, List, [], ◌∷◌}
+use Rattle.std.specs.Prelude.{ℕ, List, [], ◌∷◌, Ok, ◌≡◌}
 use Rattle.terms.specs.Kinds as model
+use Rattle.terms.specs.Codes.{from_code}
 use Rattle.codes.specs.declared.kind.Kind.{Kind}
 use Rattle.codes.specs.declared.kind.Kind.TheVariants as kind
 use Rattle.codes.specs.declared.kind.LeafSort.{LeafSort}
@@ -15,6 +16,10 @@ use Rattle.codes.specs.declared.ops.UnaryOp.{UnaryOp}
 use Rattle.codes.specs.declared.ops.UnaryOp.TheVariants as unary
 use Rattle.codes.specs.declared.ops.BinaryOp.{BinaryOp}
 use Rattle.codes.specs.declared.ops.BinaryOp.TheVariants as binary
+
+-- n is the number of x, and reads as x
+abbrev pub IsCodeOf : {A : Type 0} → (A → ℕ) → List A → A → ℕ → Type 0
+IsCodeOf code all x n = (n ≡ code x) × (from_code code all n ≡ Ok x)
 
 -- the kinds, by the numbers of the table
 abbrev pub kind_code : Kind → ℕ

@@ -1,51 +1,51 @@
 // The operators.
 ghost use Rattle.std.specs.Prelude.{◌≡◌};
 ghost use Rattle.terms.specs.Codes.{from_code};
-ghost use Rattle.codes.specs.Codes.{unary_code, all_unary, binary_code, all_binary};
+ghost use Rattle.codes.specs.Codes.{IsCodeOf, unary_code, all_unary, binary_code, all_binary};
 
 use terms::refusal::Refusal;
 
 /// Operators on one expression.
-#[derive(Clone, Copy)]
+#[derive(Clone, Copy, Debug, PartialEq, Eq, Hash)]
 pub enum UnaryOp {
-    Not,
-    Neg,
-    IsEmpty,
+    Not = 0,
+    Neg = 1,
+    IsEmpty = 2,
 }
 
 /// Operators on two expressions.
-#[derive(Clone, Copy)]
+#[derive(Clone, Copy, Debug, PartialEq, Eq, Hash)]
 pub enum BinaryOp {
-    Eq,
-    Less,
-    LessEq,
-    Add,
-    Sub,
-    Mul,
-    In,
-    Contains,
-    ContainsAll,
-    ContainsAny,
-    GetTag,
-    HasTag,
+    Eq = 0,
+    Less = 1,
+    LessEq = 2,
+    Add = 3,
+    Sub = 4,
+    Mul = 5,
+    In = 6,
+    Contains = 7,
+    ContainsAll = 8,
+    ContainsAny = 9,
+    GetTag = 10,
+    HasTag = 11,
 }
 
-impl UnaryOp {
-    /// The operator's number.
-    pub fn code(self) -> u8
-        ensures { result ≡ unary_code self }
-    {
-        match self {
-            UnaryOp::Not => 0,
-            UnaryOp::Neg => 1,
-            UnaryOp::IsEmpty => 2,
-        }
-    }
+/// The operator's number.
+impl From<UnaryOp> for u8 {
+    ghost from_gives = { IsCodeOf unary_code all_unary };
 
-    /// The operator of a number, or refusal 2.
-    pub fn from_code(code: u8) -> Result<UnaryOp, Refusal>
-        ensures { result ≡ from_code unary_code all_unary code }
-    {
+    fn from(op: UnaryOp) -> u8 {
+        op as u8
+    }
+}
+
+/// The operator of a number, or refusal 2.
+impl TryFrom<u8> for UnaryOp {
+    type Error = Refusal;
+
+    ghost try_from_gives = { λ n r. r ≡ from_code unary_code all_unary n };
+
+    fn try_from(code: u8) -> Result<UnaryOp, Refusal> {
         match code {
             0 => Ok(UnaryOp::Not),
             1 => Ok(UnaryOp::Neg),
@@ -55,31 +55,22 @@ impl UnaryOp {
     }
 }
 
-impl BinaryOp {
-    /// The operator's number.
-    pub fn code(self) -> u8
-        ensures { result ≡ binary_code self }
-    {
-        match self {
-            BinaryOp::Eq => 0,
-            BinaryOp::Less => 1,
-            BinaryOp::LessEq => 2,
-            BinaryOp::Add => 3,
-            BinaryOp::Sub => 4,
-            BinaryOp::Mul => 5,
-            BinaryOp::In => 6,
-            BinaryOp::Contains => 7,
-            BinaryOp::ContainsAll => 8,
-            BinaryOp::ContainsAny => 9,
-            BinaryOp::GetTag => 10,
-            BinaryOp::HasTag => 11,
-        }
-    }
+/// The operator's number.
+impl From<BinaryOp> for u8 {
+    ghost from_gives = { IsCodeOf binary_code all_binary };
 
-    /// The operator of a number, or refusal 2.
-    pub fn from_code(code: u8) -> Result<BinaryOp, Refusal>
-        ensures { result ≡ from_code binary_code all_binary code }
-    {
+    fn from(op: BinaryOp) -> u8 {
+        op as u8
+    }
+}
+
+/// The operator of a number, or refusal 2.
+impl TryFrom<u8> for BinaryOp {
+    type Error = Refusal;
+
+    ghost try_from_gives = { λ n r. r ≡ from_code binary_code all_binary n };
+
+    fn try_from(code: u8) -> Result<BinaryOp, Refusal> {
         match code {
             0 => Ok(BinaryOp::Eq),
             1 => Ok(BinaryOp::Less),

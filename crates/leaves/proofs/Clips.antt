@@ -1,5 +1,5 @@
 -- Parts of lists that are cut at the end of the list, and what `get` answers.
-use Rattle.std.proofs.Common.{◌≡◌, ℕ, ◌+◌, ◌-◌, ◌≤◌, min, ltb, List, length, get_or, take, drop, is_some, IfSome, Some, None, Option, sym, refl, ap, ◌∙◌, arith, Bor, ltb-false, ltb-true}
+use Rattle.std.proofs.Common.{◌≡◌, ℕ, ◌+◌, ◌-◌, ◌≤◌, min, ltb, List, length, get_or, take, drop, is_some, IfSome, Some, None, Option, MatchOption, IsSomeAnd, sym, refl, ap, ◌∙◌, arith, Bor, ltb-false, ltb-true}
 use native.Mathlib.Decide.{dec_le}
 use Rattle.std.specs.List.{slice_get}
 use Rattle.std.specs.Option.{option_map}
@@ -26,3 +26,9 @@ module _ {A : Type 0} where
 pub got : {A : Type 0} (xs : List A) (i : ℕ) (r : Option (Bor A)) → is_some r ≡ ltb i (length xs) → IfSome r (λ x. x.now ≡ get_or xs i x.now) → option_map (λ x. x.now) r ≡ slice_get xs i
 got xs i None e f = sym (slice_get_past xs i (ltb-false i (length xs) (sym e)))
 got xs i (Some x) e f = sym (slice_get_read xs (length xs) i x.now refl (ltb-true i (length xs) (sym e)) f)
+
+-- what `map` makes of a borrowed value
+pub mapped : {A B : Type 0} (f : A → B) (P : Bor A → Bor B → Type 0) (a : Option (Bor A)) (r : Option (Bor B)) → MatchOption a (r ≡ None) (λ x. IsSomeAnd r (P x)) → ((x : Bor A) (y : Bor B) → P x y → y.now ≡ f x.now) → option_map (λ y. y.now) r ≡ option_map f (option_map (λ x. x.now) a)
+mapped f P None r h k = ap (option_map (λ y. y.now)) h
+mapped f P (Some x) None h k = absurd h
+mapped f P (Some x) (Some y) h k = ap Some (k x y h)

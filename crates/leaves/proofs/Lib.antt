@@ -1,1 +1,3 @@
 pub mod Clips
+pub mod Slices
+pub mod Items

@@ -1,10 +1,12 @@
 -- What the values of the code stand for.
-use Rattle.std.specs.Prelude.{ℕ, List, map, take, drop, Option}
+use Rattle.std.specs.Prelude.{List, map, take, drop, Option}
 use Rattle.std.specs.Borrow.{Bor}
 use Rattle.std.specs.Option.{option_map}
 use Rattle.terms.specs.Terms.{Text, NameS, LiteralS, TypeS, ElemS}
 use Rattle.terms.specs.Codes.{type_code, type_name}
 use Rattle.terms.specs.declared.types.Type.{«Type»}
+use Rattle.leaves.specs.declared.text.Text as given
+use Rattle.leaves.specs.Texts.{text_of}
 use Rattle.leaves.specs.declared.text_list.Span.{Span}
 use Rattle.leaves.specs.declared.text_list.TextList.{TextList}
 use Rattle.leaves.specs.declared.text_list.TextList.TheVariants as list
@@ -18,9 +20,9 @@ use Rattle.leaves.specs.declared.leaf.Leaf.{Leaf}
 use Rattle.leaves.specs.declared.leaf.Leaf.TheVariants as leaf
 use Rattle.terms.specs.Terms as model
 
--- so many bytes from a place on, or what there is of them
-abbrev pub read : Text → Span → Text
-read t s = take s.len (drop s.start t)
+-- so many members from a place on, or what there is of them
+abbrev pub read : {A : Type 0} → List A → Span → List A
+read xs s = take s.len (drop s.start xs)
 
 -- the texts of a list, as given or as read
 abbrev pub texts_of : TextList → List Text
@@ -29,7 +31,7 @@ texts_of (list.Kept bytes spans) = map (read bytes.now) spans.now
 
 -- the name with its texts
 abbrev pub name_of : Name → NameS
-name_of n = record { base = n.base.now; namespaces = texts_of n.namespaces }
+name_of n = record { base = text_of n.base; namespaces = texts_of n.namespaces }
 
 -- an element of a pattern
 abbrev pub elem_of : PatternElem → ElemS
@@ -64,12 +66,12 @@ abbrev pub type_of : «Type» Name → TypeS
 type_of t = type_by name_of t
 
 -- a literal over slices
-abbrev pub literal_of : Literal (Bor (List ℕ)) Name → LiteralS
-literal_of l = literal_by (λ x. x.now) name_of l
+abbrev pub literal_of : Literal given.Text Name → LiteralS
+literal_of l = literal_by text_of name_of l
 
 -- an unknown over slices
-abbrev pub unknown_of : Unknown (Bor (List ℕ)) Name → Text × Option TypeS
-unknown_of u = unknown_by (λ x. x.now) name_of u
+abbrev pub unknown_of : Unknown given.Text Name → Text × Option TypeS
+unknown_of u = unknown_by text_of name_of u
 
 -- a leaf, with h for how a list of texts is given and p for how a pattern is
 abbrev pub leaf_by : {T N L P : Type 0} → (T → Text) → (N → NameS) → (L → List Text) → (P → List ElemS) → Leaf T N L P → model.Leaf
@@ -84,8 +86,8 @@ leaf_by f g h p (leaf.Pattern es) = model.Leaf.pattern (p es)
 
 -- a leaf over slices
 abbrev pub GivenLeaf : Type 0
-GivenLeaf = Leaf (Bor (List ℕ)) Name TextList (Bor (List PatternElem))
+GivenLeaf = Leaf given.Text Name TextList (Bor (List PatternElem))
 
 -- what it stands for
 abbrev pub leaf_of : GivenLeaf → model.Leaf
-leaf_of l = leaf_by (λ x. x.now) name_of texts_of (λ es. pattern_of es.now) l
+leaf_of l = leaf_by text_of name_of texts_of (λ es. pattern_of es.now) l

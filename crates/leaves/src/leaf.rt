@@ -6,13 +6,15 @@ ghost use Rattle.leaves.specs.Values.{leaf_of};
 use crate::literal::{Literal, Unknown};
 use crate::name::Name;
 use crate::pattern::PatternElem;
+use crate::text::Text;
 use crate::text_list::TextList;
 
 /// What a node has besides its children. A variable, a slot and an operator are codes: the kind says which.
-#[derive(Clone, Copy)]
+#[derive(Clone, Copy, Debug, PartialEq, Eq)]
 pub enum Leaf<T, N, L, P> {
     Nothing,
     Literal(Literal<T, N>),
+    // a number and no enum: any can be given, and a bank refuses those out of range
     Code(u8),
     Unknown(Unknown<T, N>),
     Name(N),
@@ -22,7 +24,9 @@ pub enum Leaf<T, N, L, P> {
 }
 
 /// A leaf as a caller gives it, or as it is read.
-pub type Given<'a> = Leaf<&'a [u8], Name<'a>, TextList<'a>, &'a [PatternElem]>;
+pub type Given<'a> = Leaf<Text<'a>, Name<'a>, TextList<'a>, &'a [PatternElem]>;
+
+// Constructors by name, since `From<u8>` would not say that a number is a code.
 
 /// No leaf.
 pub fn nothing() -> Given<'static>
@@ -56,5 +60,5 @@ pub fn code(value: u8) -> Given<'static>
 pub fn text(value: &[u8]) -> Given<'_>
     ensures { leaf_of result ≡ model.text value.now }
 {
-    Leaf::Text(value)
+    Leaf::Text(Text(value))
 }

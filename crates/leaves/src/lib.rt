@@ -5,4 +5,5 @@ pub mod leaf;
 pub mod literal;
 pub mod name;
 pub mod pattern;
+pub mod text;
 pub mod text_list;

@@ -2,7 +2,7 @@
 use terms::types::Type;
 
 /// A literal.
-#[derive(Clone, Copy)]
+#[derive(Clone, Copy, Debug, PartialEq, Eq, PartialOrd, Ord)]
 pub enum Literal<T, N> {
     Bool(bool),
     Long(i64),
@@ -11,7 +11,7 @@ pub enum Literal<T, N> {
 }
 
 /// A blank of a condition: its name, and the type of what is to fill it, if it has one.
-#[derive(Clone, Copy)]
+#[derive(Clone, Copy, Debug, PartialEq, Eq, PartialOrd, Ord)]
 pub struct Unknown<T, N> {
     pub name: T,
     pub type_annotation: Option<Type<N>>,

@@ -1,9 +1,10 @@
 // Names.
+use crate::text::Text;
 use crate::text_list::TextList;
 
 /// A name: its base and the namespaces before it. Any texts can be given; a bank refuses those out of bounds.
-#[derive(Clone, Copy)]
+#[derive(Clone, Copy, Debug, PartialEq, Eq, PartialOrd, Ord)]
 pub struct Name<'a> {
-    pub base: &'a [u8],
+    pub base: Text<'a>,
     pub namespaces: TextList<'a>,
 }

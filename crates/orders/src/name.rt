@@ -3,8 +3,6 @@ ghost use Rattle.std.specs.Prelude.{◌≡◌};
 ghost use Rattle.terms.specs.Orders.{name_order};
 ghost use Rattle.leaves.specs.Values.{name_of};
 
-use crate::text::compare_text;
-use crate::texts::compare_texts;
 use leaves::name::Name;
 use std::cmp::Ordering;
 
@@ -12,8 +10,5 @@ use std::cmp::Ordering;
 pub fn compare_name(a: Name, b: Name) -> Ordering
     ensures { result ≡ name_order (name_of a.entry) (name_of b.entry) }
 {
-    match compare_text(a.base, b.base) {
-        Ordering::Equal => compare_texts(a.namespaces, b.namespaces),
-        unequal => unequal,
-    }
+    a.cmp(&b)
 }

@@ -11,25 +11,12 @@ use std::cmp::Ordering;
 pub fn compare_elem(a: PatternElem, b: PatternElem) -> Ordering
     ensures { result ≡ elem_order (elem_of a) (elem_of b) }
 {
-    match (a, b) {
-        (PatternElem::Scalar(x), PatternElem::Scalar(y)) => x.cmp(&y),
-        (PatternElem::Scalar(_), PatternElem::Wildcard) => Ordering::Less,
-        (PatternElem::Wildcard, PatternElem::Scalar(_)) => Ordering::Greater,
-        (PatternElem::Wildcard, PatternElem::Wildcard) => Ordering::Equal,
-    }
+    a.cmp(&b)
 }
 
 /// Patterns element by element; one that begins another is less.
 pub fn compare_pattern(a: &[PatternElem], b: &[PatternElem]) -> Ordering
     ensures { result ≡ list_order elem_order (pattern_of a.now) (pattern_of b.now) }
 {
-    match (a, b) {
-        ([], []) => Ordering::Equal,
-        ([], [_, ..]) => Ordering::Less,
-        ([_, ..], []) => Ordering::Greater,
-        ([x, xs @ ..], [y, ys @ ..]) => match compare_elem(*x, *y) {
-            Ordering::Equal => compare_pattern(xs, ys),
-            unequal => unequal,
-        },
-    }
+    a.cmp(b)
 }

@@ -1,6 +1,8 @@
 -- The shapes of a bank's nodes.
-use Rattle.std.proofs.Common.{◌≡◌, ℕ, zero, suc, ◌+◌, ◌<◌, ◌≤◌, List, [], ◌∷◌, ◌++◌, length, get_or, take, sym, refl, ap, ◌∙◌, subst, zero-add, arith}
+use Rattle.std.proofs.Common.{◌≡◌, ℕ, zero, suc, ◌+◌, ◌<◌, ◌≤◌, List, [], ◌∷◌, ◌++◌, length, get_or, take, refl, ap, ◌∙◌, zero-add, arith}
 use Rattle.std.proofs.lemmas.List.{get_or_push, length_push, get_or-take}
+use Rattle.std.proofs.lemmas.List.Elements.{All-nil, All-push}
+use Rattle.std.specs.List.{All as Each}
 use Rattle.terms.specs.Shape.{Shape, node, entry}
 use Rattle.terms.specs.Formed.{All, Formed, AllFormed}
 use Rattle.terms.specs.Bank.{Child, NodeM, Bank, table, nothing, gather, shape_of, shapes, shape_at, ClosedFrom, Closed, NodesOkOver, NodesOk, BankLaws}
@@ -33,45 +35,32 @@ gather_take : (i : ℕ) (ss : List Shape) (cs : List Child) → Within i cs → 
 gather_take i ss [] w = refl
 gather_take i ss (c ∷ cs) w = λ j. entry c.0 (get_or-take i ss c.1 nothing w.0 j) (gather_take i ss cs w.1 j)
 
-closed_from : (b : ℕ) (m : Bank) (i : ℕ) (d : NodeM) → ClosedFrom b m → i < length m → Within (b + i) (get_or m i d).children
-closed_from b [] i d c h = absurd (omega arith)
-closed_from b (n ∷ ns) zero d c h = within_up b (b + 0) n.children (omega arith) c.0
-closed_from b (n ∷ ns) (suc i) d c h = within_up (suc b + i) (b + suc i) (get_or ns i d).children (omega arith) (closed_from (suc b) ns i d c.1 (omega arith))
-
-pub closed_at : (m : Bank) (i : ℕ) (d : NodeM) → Closed m → i < length m → Within i (get_or m i d).children
-closed_at m i d c h = within_up (0 + i) i (get_or m i d).children (omega arith) (closed_from 0 m i d c h)
+closed_from : (b : ℕ) (m : Bank) (i j : ℕ) (d : NodeM) → b + i ≡ j → ClosedFrom b m → i < length m → Within j (get_or m i d).children
+closed_from b [] i j d e c h = absurd (omega arith)
+closed_from b (n ∷ ns) zero j d e c h = within_up b j n.children (omega arith) c.0
+closed_from b (n ∷ ns) (suc i) j d e c h = closed_from (suc b) ns i j d (omega arith) c.1 (omega arith)
 
 opened : (m : Bank) (i : ℕ) (d : NodeM) → Closed m → i < length m → shape_at m i ≡ shape_of (shapes m) (get_or m i d)
 opened m i d c h =
     let n = get_or m i d in
     rw zero-add at (table_at shape_of [] m i nothing d h)
-    ∙ ap (node n.kind n.leaf) (gather_take i (shapes m) n.children (closed_at m i d c h))
+    ∙ ap (node n.kind n.leaf) (gather_take i (shapes m) n.children (closed_from 0 m i i d (omega arith) c h))
 
 -- ---- well formed trees
 
-at_each : (ss : List Shape) (i : ℕ) → All Formed ss → i < length ss → Formed (get_or ss i nothing)
-at_each [] i f h = absurd (omega arith)
-at_each (s ∷ ss) zero f h = f.0
-at_each (s ∷ ss) (suc i) f h = at_each ss i f.1 (omega arith)
-
-gather_formed : (ss : List Shape) (cs : List Child) → All Formed ss → Within (length ss) cs → AllFormed (gather ss cs)
+gather_formed : (ss : List Shape) (cs : List Child) → Each Formed ss → Within (length ss) cs → AllFormed (gather ss cs)
 gather_formed ss [] f w = tt
-gather_formed ss (c ∷ cs) f w = (at_each ss c.1 f w.0, gather_formed ss cs f w.1)
+gather_formed ss (c ∷ cs) f w = (f c.1 nothing w.0, gather_formed ss cs f w.1)
 
-all_push : (ss : List Shape) (s : Shape) → All Formed ss → Formed s → All Formed (ss ++ (s ∷ []))
-all_push [] s f h = (h, tt)
-all_push (t ∷ ss) s f h = (f.0, all_push ss s f.1 h)
-
-all_formed : (ss : List Shape) (m : Bank) → All Formed ss → ClosedFrom (length ss) m → NodesOkOver ss m → All Formed (table shape_of ss m)
+all_formed : (ss : List Shape) (m : Bank) → Each Formed ss → ClosedFrom (length ss) m → NodesOkOver ss m → Each Formed (table shape_of ss m)
 all_formed ss [] f c h = f
 all_formed ss (n ∷ ns) f c h =
-    let l = length_push ss (shape_of ss n) in
-    let k : length (ss ++ (shape_of ss n ∷ [])) ≡ suc (length ss) = omega arith in
-    let g : Formed (shape_of ss n) = (h.0, gather_formed ss n.children f c.0) in
-    all_formed (ss ++ (shape_of ss n ∷ [])) ns (all_push ss (shape_of ss n) f g) (subst (λ b. ClosedFrom b ns) (sym k) c.1) h.1
+    let s = shape_of ss n in
+    let k : length (ss ++ (s ∷ [])) ≡ suc (length ss) = omega (arith, length_push ss s) in
+    all_formed (ss ++ (s ∷ [])) ns (All-push Formed ss s f (h.0, gather_formed ss n.children f c.0)) (rw k c.1) h.1
 
 pub formed : (m : Bank) (i : ℕ) → Closed m → NodesOk m → i < length m → Formed (shape_at m i)
-formed m i c h k = at_each (shapes m) i (all_formed [] m tt c h) (omega (arith, shapes_length m))
+formed m i c h k = all_formed [] m (All-nil Formed) c h i nothing (omega (arith, shapes_length m))
 
 pub bank_laws : BankLaws
 bank_laws = record { kept = kept; added = added; opened = opened }

@@ -12,11 +12,11 @@ use Rattle.terms.proofs.BankShapes.{Within, within_up, formed}
 
 mutual
   laid_length : (b : ℕ) (s : Shape) → length (laid b s) ≡ size s
-  laid_length b (node k l c) = omega (arith, laids_length b c, length-append (laids b c) (laid_node k l (roots b c) ∷ []))
+  laid_length b (node k l c) = simp length-append (omega (arith, laids_length b c))
 
   laids_length : (b : ℕ) (c : Shapes) → length (laids b c) ≡ sizes c
   laids_length b done = refl
-  laids_length b (entry k s r) = omega (arith, laid_length b s, laids_length (b + size s) r, length-append (laid b s) (laids (b + size s) r))
+  laids_length b (entry k s r) = simp length-append (omega (arith, laid_length b s, laids_length (b + size s) r))
 
 root_last : (b : ℕ) (s : Shape) → suc (root b s) ≡ b + size s
 root_last b (node k l c) = omega arith

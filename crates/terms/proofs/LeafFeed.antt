@@ -1,14 +1,14 @@
 -- The feeds of the leaves are prefix codes.
-use Rattle.std.proofs.Common.{◌≡◌, ℕ, zero, suc, ◌^◌, ◌<◌, ◌≤◌, Bool, true, false, leb, ◌⊎◌, List, [], ◌∷◌, ◌++◌, length, ℤ, is_some, IfSome, Some, None, Option, sym, refl, ap, ◌∙◌, true≢false, arith, to_z-of_z, w64, SFits, to_z, of_z}
+use Rattle.std.proofs.Common.{◌≡◌, ℕ, ◌<◌, ◌≤◌, Bool, true, false, zero, suc, leb, ◌⊎◌, List, [], ◌∷◌, ◌++◌, length, is_some, IfSome, Some, None, Option, sym, refl, ap, ◌∙◌, arith, to_z-of_z, w64, SFits, to_z, of_z}
 use mir.Facts.{Fits-of_z}
-use Rattle.terms.specs.Terms.{Text, NameS, LiteralS, TypeS, ElemS, Leaf}
+use Rattle.terms.specs.Terms.{NameS, LiteralS, ElemS, Leaf}
 use Rattle.terms.specs.Orders.{name_parts, literal_side, elem_side, LeafSides, leaf_side}
 use Rattle.terms.specs.Kinds.{sort}
 use Rattle.terms.specs.Laws.{Apart}
 use Rattle.terms.specs.Formed.{All, TextOk, NameOk, LiteralOk, TypeOk, ElemOk, LeafOk}
 use Rattle.terms.specs.Feed.{bytes, feed_text, feed_list, feed_name, bit, feed_literal, feed_maybe, feed_type, feed_elem, feed_leaf}
 use Rattle.terms.proofs.Sides.{literal_of, literal_back, elem_of, elem_back, leaf_of, leaf_back}
-use Rattle.terms.proofs.Prefix.{Code, Placed, head_same, tail_same, byte, words, pair_code, list_code, text_code, none_code, side_place, last_side, side, tagged, through, placed_through, narrower, option_side, maybe_code, option_code}
+use Rattle.terms.proofs.Prefix.{Code, Placed, byte, words, pair_code, list_code, text_code, none_code, side_place, last_side, side, tagged, through, placed_through, narrower, option_code}
 
 pub texts : Code TextOk feed_text
 texts = narrower text_code TextOk (λ t h. omega arith)
@@ -34,13 +34,10 @@ bool_back true = refl
 bools : Code (λ (b : Bool). Unit {0}) (λ b. bit b ∷ [])
 bools = through byte (λ b. Unit {0}) (λ b. bit b ∷ []) bit bool_of bool_back (λ b. refl) (λ b h. h)
 
-fits_eight : (z : ℤ) → SFits w64 z → of_z w64 z < 256 ^ 8
-fits_eight z h = (Fits-of_z {w = w64} {z = z} h).fits
-
 longs : Code (SFits w64) (λ z. bytes 8 (of_z w64 z))
 longs = record {
   reads = λ x y p q r s e.
-      let h = (words 8).reads (of_z w64 x) (of_z w64 y) (fits_eight x p) (fits_eight y q) r s e in
+      let h = (words 8).reads (of_z w64 x) (of_z w64 y) (Fits-of_z p).fits (Fits-of_z q).fits r s e in
       (sym (to_z-of_z p) ∙ ap (to_z w64) h.0 ∙ to_z-of_z q, h.1);
 }
 
@@ -64,28 +61,22 @@ elems =
 
 -- ---- types: the code says whether a name follows
 
-any_name : Placed (λ o. side_place (λ (n : NameS). 0) (option_side o)) (λ o. IfSome o NameOk) (feed_maybe feed_name)
-any_name = maybe_code names (feed_maybe feed_name) refl (λ n. refl)
-
-same_place : (o p : Option NameS) → is_some o ≡ is_some p → side_place (λ (n : NameS). 0) (option_side o) ≡ side_place (λ (n : NameS). 0) (option_side p)
-same_place None None e = refl
-same_place None (Some y) e = absurd (true≢false (sym e))
-same_place (Some x) None e = absurd (true≢false e)
-same_place (Some x) (Some y) e = refl
+name_reads : (o p : Option NameS) → is_some o ≡ is_some p → IfSome o NameOk → IfSome p NameOk → (r s : List ℕ) → feed_maybe feed_name o ++ r ≡ feed_maybe feed_name p ++ s → (o ≡ p) × (r ≡ s)
+name_reads None None n p q r s e = (refl, e)
+name_reads None (Some y) n p q r s e = cc
+name_reads (Some x) None n p q r s e = cc
+name_reads (Some x) (Some y) n p q r s e = let h = names.reads x y p q r s e in (ap Some h.0, h.1)
 
 type_reads : Apart TypeOk feed_type
 type_reads x y p q r s e =
-    let c = head_same x.code y.code (feed_maybe feed_name x.name ++ r) (feed_maybe feed_name y.name ++ s) e in
-    let n = any_name.reads x.name y.name (same_place x.name y.name (p.1 ∙ ap (leb 5) c ∙ sym q.1)) p.2 q.2 r s (tail_same x.code y.code (feed_maybe feed_name x.name ++ r) (feed_maybe feed_name y.name ++ s) e) in
+    let c : x.code ≡ y.code = cc in
+    let n = name_reads x.name y.name (p.1 ∙ ap (leb 5) c ∙ sym q.1) p.2 q.2 r s (cc) in
     (λ i. record { code = c i; name = n.0 i }, n.1)
 
 pub types : Code TypeOk feed_type
 types = record { reads = type_reads }
 
 -- ---- a leaf of one sort
-
-abbrev UnknownOk : Text × Option TypeS → Type 0
-UnknownOk p = TextOk p.0 × IfSome p.1 TypeOk
 
 codes : (b : ℕ) → Code (λ c. c < b) (λ c. c ∷ [])
 codes b = narrower byte (λ c. c < b) (λ c h. tt)
@@ -103,11 +94,8 @@ place_is (Leaf.text t) = refl
 place_is (Leaf.texts ts) = refl
 place_is (Leaf.pattern p) = refl
 
-placed_leaves : (b : ℕ) → Placed (λ l. sort_place (leaf_side l)) (LeafOk b) feed_leaf
-placed_leaves b =
-    placed_through (side none_code (side literals (side (codes b) (side (pair_code texts (option_code types)) (side names (side texts (side (lists_of texts) (last_side (lists_of elems))))))))) (LeafOk b) feed_leaf leaf_side leaf_of leaf_back
+pub leaves : (b : ℕ) → Placed sort (LeafOk b) feed_leaf
+leaves b =
+    placed_through (side none_code (side literals (side (codes b) (side (pair_code texts (option_code types)) (side names (side texts (side (lists_of texts) (last_side (lists_of elems))))))))) (LeafOk b) feed_leaf leaf_side leaf_of leaf_back place_is
     (elim [ Leaf.bare ↦ refl | Leaf.literal l ↦ refl | Leaf.code c ↦ refl | Leaf.unknown t o ↦ refl | Leaf.name n ↦ refl | Leaf.text t ↦ refl | Leaf.texts ts ↦ refl | Leaf.pattern p ↦ refl ])
     (elim [ Leaf.bare ↦ λ h. h | Leaf.literal l ↦ λ h. h | Leaf.code c ↦ λ h. h | Leaf.unknown t o ↦ λ h. h | Leaf.name n ↦ λ h. h | Leaf.text t ↦ λ h. h | Leaf.texts ts ↦ λ h. (omega arith, h.2) | Leaf.pattern p ↦ λ h. h ])
-
-pub leaves : (b : ℕ) → Placed sort (LeafOk b) feed_leaf
-leaves b = record { reads = λ x y n. (placed_leaves b).reads x y (sym (place_is x) ∙ n ∙ place_is y) }

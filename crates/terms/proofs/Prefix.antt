@@ -1,8 +1,9 @@
 -- Prefix codes, and how they are put together: no code of a value begins that of another.
-use Rattle.std.proofs.Common.{◌≡◌, ℕ, zero, suc, ◌*◌, ◌/◌, ◌%◌, ◌^◌, ◌<◌, ◌⊎◌, List, [], ◌∷◌, ◌++◌, length, IfSome, Some, None, Option, sym, refl, ap, ◌∙◌, inl, inr, append_assoc, pow-suc, arith}
+use Rattle.std.proofs.Common.{◌≡◌, ℕ, zero, suc, ◌*◌, ◌/◌, ◌%◌, ◌^◌, ◌<◌, ◌⊎◌, List, [], ◌∷◌, ◌++◌, length, IfSome, Some, None, Option, sym, refl, ap, ◌∙◌, inl, inr, append_assoc, pow-suc, take, drop, arith}
+use Rattle.std.proofs.lemmas.List.{take_at, drop_at}
 use Rattle.terms.specs.Laws.{Apart, Injective}
 use Rattle.terms.specs.Formed.{All}
-use Rattle.terms.specs.Feed.{bytes, feed_number, feed_length, each, feed_list, feed_text, feed_option}
+use Rattle.terms.specs.Feed.{bytes, each, feed_list, feed_text, feed_option}
 
 -- f is a prefix code of the values of which P holds
 pub record Code {A : Type 0} (P : A → Type 0) (f : A → List ℕ) : Type 0 where
@@ -14,40 +15,21 @@ pub record Placed {A : Type 0} (place : A → ℕ) (P : A → Type 0) (f : A →
 
 -- ---- lists alone
 
-pub head_same : {A : Type 0} (x y : A) (r s : List A) → x ∷ r ≡ y ∷ s → x ≡ y
-head_same x y r s e = cc
-
-pub tail_same : {A : Type 0} (x y : A) (r s : List A) → x ∷ r ≡ y ∷ s → r ≡ s
-tail_same x y r s e = cc
-
--- a part in front is read first
-pub regroup : (a b r a' b' s : List ℕ) → (a ++ b) ++ r ≡ (a' ++ b') ++ s → a ++ (b ++ r) ≡ a' ++ (b' ++ s)
-regroup a b r a' b' s e = sym (append_assoc a b r) ∙ e ∙ append_assoc a' b' s
-
 pub injective : {A : Type 0} {P : A → Type 0} {f : A → List ℕ} → Code P f → Injective P f
 injective c x y p q e = (c.reads x y p q [] [] (ap (λ l. l ++ []) e)).0
 
 -- ---- numbers
 
 pub byte : Code (λ (n : ℕ). Unit {0}) (λ n. n ∷ [])
-byte = record { reads = λ x y p q r s e. (head_same x y r s e, tail_same x y r s e) }
-
-from_parts : (x y : ℕ) → x % 256 ≡ y % 256 → x / 256 ≡ y / 256 → x ≡ y
-from_parts x y p q = omega arith
-
-quotient_below : (k x : ℕ) → x < 256 ^ suc k → x / 256 < 256 ^ k
-quotient_below k x h =
-    let e : 256 ^ suc k ≡ 256 ^ k * 256 = pow-suc 256 k in
-    omega arith
+byte = record { reads = λ x y p q r s e. (cc, cc) }
 
 bytes_reads : (k : ℕ) (x y : ℕ) → x < 256 ^ k → y < 256 ^ k → (r s : List ℕ) → bytes k x ++ r ≡ bytes k y ++ s → (x ≡ y) × (r ≡ s)
 bytes_reads zero x y p q r s e = (omega arith, e)
 bytes_reads (suc k) x y p q r s e =
-    let a = bytes k (x / 256) ++ r in
-    let b = bytes k (y / 256) ++ s in
-    let h = head_same (x % 256) (y % 256) a b e in
-    let g = bytes_reads k (x / 256) (y / 256) (quotient_below k x p) (quotient_below k y q) r s (tail_same (x % 256) (y % 256) a b e) in
-    (from_parts x y h g.0, g.1)
+    let h : x % 256 ≡ y % 256 = cc in
+    let n : 256 ^ suc k ≡ 256 ^ k * 256 = pow-suc 256 k in
+    let g = bytes_reads k (x / 256) (y / 256) (omega arith) (omega arith) r s (cc) in
+    (omega arith, g.1)
 
 pub words : (k : ℕ) → Code (λ n. n < 256 ^ k) (bytes k)
 words k = record { reads = bytes_reads k }
@@ -55,14 +37,13 @@ words k = record { reads = bytes_reads k }
 -- ---- pairs and lists
 
 module _ {A B : Type 0} {P : A → Type 0} {Q : B → Type 0} {f : A → List ℕ} {g : B → List ℕ} (c : Code P f) (d : Code Q g) where
-  pair_reads : Apart (λ (x : A × B). P x.0 × Q x.1) (λ x. f x.0 ++ g x.1)
-  pair_reads x y p q r s e =
-      let h = c.reads x.0 y.0 p.0 q.0 (g x.1 ++ r) (g y.1 ++ s) (regroup (f x.0) (g x.1) r (f y.0) (g y.1) s e) in
-      let k = d.reads x.1 y.1 p.1 q.1 r s h.1 in
-      (λ i. (h.0 i, k.0 i), k.1)
-
   pub pair_code : Code (λ (x : A × B). P x.0 × Q x.1) (λ x. f x.0 ++ g x.1)
-  pair_code = record { reads = pair_reads }
+  pair_code = record {
+    reads = λ x y p q r s e.
+        let h = c.reads x.0 y.0 p.0 q.0 _ _ (simp append_assoc at e) in
+        let k = d.reads x.1 y.1 p.1 q.1 r s h.1 in
+        (λ i. (h.0 i, k.0 i), k.1);
+  }
 
 module _ {A : Type 0} {P : A → Type 0} {f : A → List ℕ} (c : Code P f) where
   each_reads : (x y : List A) → length x ≡ length y → All P x → All P y → (r s : List ℕ) → each f x ++ r ≡ each f y ++ s → (x ≡ y) × (r ≡ s)
@@ -70,32 +51,23 @@ module _ {A : Type 0} {P : A → Type 0} {f : A → List ℕ} (c : Code P f) whe
   each_reads [] (y ∷ ys) n p q r s e = absurd (omega arith)
   each_reads (x ∷ xs) [] n p q r s e = absurd (omega arith)
   each_reads (x ∷ xs) (y ∷ ys) n p q r s e =
-      let h = c.reads x y p.0 q.0 (each f xs ++ r) (each f ys ++ s) (regroup (f x) (each f xs) r (f y) (each f ys) s e) in
+      let h = c.reads x y p.0 q.0 _ _ (simp append_assoc at e) in
       let g = each_reads xs ys (omega arith) p.1 q.1 r s h.1 in
       (λ i. h.0 i ∷ g.0 i, g.1)
 
-  list_reads : Apart (λ (l : List A). (length l < 256 ^ 8) × All P l) (feed_list f)
-  list_reads x y p q r s e =
-      let h = (words 8).reads (length x) (length y) p.0 q.0 (each f x ++ r) (each f y ++ s) (regroup (feed_number (length x)) (each f x) r (feed_number (length y)) (each f y) s e) in
-      each_reads x y h.0 p.1 q.1 r s h.1
-
   pub list_code : Code (λ (l : List A). (length l < 256 ^ 8) × All P l) (feed_list f)
-  list_code = record { reads = list_reads }
-
-so_long : (x y : List ℕ) → length x ≡ length y → (r s : List ℕ) → x ++ r ≡ y ++ s → (x ≡ y) × (r ≡ s)
-so_long [] [] n r s e = (refl, e)
-so_long [] (y ∷ ys) n r s e = absurd (omega arith)
-so_long (x ∷ xs) [] n r s e = absurd (omega arith)
-so_long (x ∷ xs) (y ∷ ys) n r s e =
-    let h = head_same x y (xs ++ r) (ys ++ s) e in
-    let g = so_long xs ys (omega arith) r s (tail_same x y (xs ++ r) (ys ++ s) e) in
-    (λ i. h i ∷ g.0 i, g.1)
+  list_code = record {
+    reads = λ x y p q r s e.
+        let h = (words 8).reads (length x) (length y) p.0 q.0 _ _ (simp append_assoc at e) in
+        each_reads x y h.0 p.1 q.1 r s h.1;
+  }
 
 pub text_code : Code (λ (t : List ℕ). length t < 256 ^ 8) feed_text
 text_code = record {
   reads = λ x y p q r s e.
-      let h = (words 8).reads (length x) (length y) p q (x ++ r) (y ++ s) (regroup (feed_length (length x)) x r (feed_length (length y)) y s e) in
-      so_long x y h.0 r s h.1;
+      let h = (words 8).reads (length x) (length y) p q _ _ (simp append_assoc at e) in
+      let n = sym h.0 in
+      (sym (take_at x r (length x) refl) ∙ ap (take (length x)) h.1 ∙ take_at y s (length x) n, sym (drop_at x r (length x) refl) ∙ ap (drop (length x)) h.1 ∙ drop_at y s (length x) n);
 }
 
 -- ---- nothing fed, and sides with and without a number in front
@@ -135,28 +107,21 @@ module _ {A B : Type 0} {P : A → Type 0} {Q : B → Type 0} {f : A → List �
 -- the number of the side in front
 pub tagged : {A : Type 0} {place : A → ℕ} {P : A → Type 0} {f : A → List ℕ} → Placed place P f → Code P (λ x. place x ∷ f x)
 tagged {place} {f} c = record {
-  reads = λ x y p q r s e. c.reads x y (head_same (place x) (place y) (f x ++ r) (f y ++ s) e) p q r s (tail_same (place x) (place y) (f x ++ r) (f y ++ s) e);
+  reads = λ x y p q r s e. c.reads x y (cc) p q r s (cc);
 }
 
 -- ---- by a function that another takes back
 
-moved : (a b a' b' r s : List ℕ) → a ≡ a' → b ≡ b' → a ++ r ≡ b ++ s → a' ++ r ≡ b' ++ s
-moved a b a' b' r s p q e = ap (λ l. l ++ r) (sym p) ∙ e ∙ ap (λ l. l ++ s) q
-
 module _ {A B : Type 0} {Q : B → Type 0} {g : B → List ℕ} where
-  pub through : Code Q g → (P : A → Type 0) (f : A → List ℕ) (out : A → B) (of : B → A) → ((x : A) → of (out x) ≡ x) → ((x : A) → f x ≡ g (out x)) → ((x : A) → P x → Q (out x)) → Code P f
-  through c P f out of back is ok = record {
-    reads = λ x y p q r s e.
-        let h = c.reads (out x) (out y) (ok x p) (ok y q) r s (moved (f x) (f y) (g (out x)) (g (out y)) r s (is x) (is y) e) in
+  pub placed_through : {here : A → ℕ} {place : B → ℕ} → Placed place Q g → (P : A → Type 0) (f : A → List ℕ) (out : A → B) (of : B → A) → ((x : A) → of (out x) ≡ x) → ((x : A) → here x ≡ place (out x)) → ((x : A) → f x ≡ g (out x)) → ((x : A) → P x → Q (out x)) → Placed here P f
+  placed_through c P f out of back stands is ok = record {
+    reads = λ x y n p q r s e.
+        let h = c.reads (out x) (out y) (sym (stands x) ∙ n ∙ stands y) (ok x p) (ok y q) r s (rw (is x, is y) at e) in
         (sym (back x) ∙ ap of h.0 ∙ back y, h.1);
   }
 
-  pub placed_through : {place : B → ℕ} → Placed place Q g → (P : A → Type 0) (f : A → List ℕ) (out : A → B) (of : B → A) → ((x : A) → of (out x) ≡ x) → ((x : A) → f x ≡ g (out x)) → ((x : A) → P x → Q (out x)) → Placed (λ x. place (out x)) P f
-  placed_through c P f out of back is ok = record {
-    reads = λ x y n p q r s e.
-        let h = c.reads (out x) (out y) n (ok x p) (ok y q) r s (moved (f x) (f y) (g (out x)) (g (out y)) r s (is x) (is y) e) in
-        (sym (back x) ∙ ap of h.0 ∙ back y, h.1);
-  }
+  pub through : Code Q g → (P : A → Type 0) (f : A → List ℕ) (out : A → B) (of : B → A) → ((x : A) → of (out x) ≡ x) → ((x : A) → f x ≡ g (out x)) → ((x : A) → P x → Q (out x)) → Code P f
+  through c P f out of back is ok = record { reads = λ x y. (placed_through {here = λ x. 0} (last_side c) P f out of back (λ x. refl) is ok).reads x y refl }
 
 -- the same code of fewer values
 pub narrower : {A : Type 0} {Q : A → Type 0} {f : A → List ℕ} → Code Q f → (P : A → Type 0) → ((x : A) → P x → Q x) → Code P f
@@ -164,11 +129,11 @@ narrower c P ok = record { reads = λ x y p q. c.reads x y (ok x p) (ok y q) }
 
 -- ---- options: 0 for nothing, 1 and the value
 
-abbrev pub option_side : {A : Type 0} → Option A → Unit {0} ⊎ A
+abbrev option_side : {A : Type 0} → Option A → Unit {0} ⊎ A
 option_side None = inl tt
 option_side (Some x) = inr x
 
-abbrev pub side_option : {A : Type 0} → Unit {0} ⊎ A → Option A
+abbrev side_option : {A : Type 0} → Unit {0} ⊎ A → Option A
 side_option (inl u) = None
 side_option (inr x) = Some x
 
@@ -176,10 +141,5 @@ option_back : {A : Type 0} (o : Option A) → side_option (option_side o) ≡ o
 option_back None = refl
 option_back (Some x) = refl
 
-module _ {A : Type 0} {P : A → Type 0} {f : A → List ℕ} (c : Code P f) where
-  -- a value that is fed bare, where something else says whether there is one
-  pub maybe_code : (g : Option A → List ℕ) → g None ≡ [] → ((x : A) → g (Some x) ≡ f x) → Placed (λ o. side_place (λ (x : A). 0) (option_side o)) (λ o. IfSome o P) g
-  maybe_code g none some = placed_through (side none_code (last_side c)) (λ o. IfSome o P) g option_side side_option option_back (elim [ None ↦ none | Some x ↦ some x ]) (elim [ None ↦ λ h. h | Some x ↦ λ h. h ])
-
-  pub option_code : Code (λ o. IfSome o P) (feed_option f)
-  option_code = through (tagged (side none_code (last_side c))) (λ o. IfSome o P) (feed_option f) option_side side_option option_back (elim [ None ↦ refl | Some x ↦ refl ]) (elim [ None ↦ λ h. h | Some x ↦ λ h. h ])
+pub option_code : {A : Type 0} {P : A → Type 0} {f : A → List ℕ} → Code P f → Code (λ o. IfSome o P) (feed_option f)
+option_code {P} {f} c = through (tagged (side none_code (last_side c))) (λ o. IfSome o P) (feed_option f) option_side side_option option_back (elim [ None ↦ refl | Some x ↦ refl ]) (elim [ None ↦ λ h. h | Some x ↦ λ h. h ])

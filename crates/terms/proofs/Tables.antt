@@ -1,6 +1,6 @@
 -- What a table makes of a list of nodes, whatever it makes.
 use Rattle.std.proofs.Common.{◌≡◌, ℕ, zero, suc, ◌+◌, ◌<◌, ◌≤◌, List, [], ◌∷◌, ◌++◌, length, get_or, take, sym, refl, ap, ◌∙◌, arith}
-use Rattle.std.proofs.lemmas.List.{append-nil, get_or_push, length_push, take_at, take-take, get_or-take}
+use Rattle.std.proofs.lemmas.List.{take_all, get_or_push, length_push, take_at, take-take, get_or-take}
 use Rattle.terms.specs.Bank.{NodeM, Bank, table}
 
 module _ {A : Type 0} (f : List A → NodeM → A) where
@@ -13,12 +13,11 @@ module _ {A : Type 0} (f : List A → NodeM → A) where
   table_length acc (n ∷ ns) = let e = table_length (acc ++ (f acc n ∷ [])) ns in let l = length_push acc (f acc n) in omega arith
 
   pub table_take : (acc : List A) (ns : Bank) → take (length acc) (table f acc ns) ≡ acc
-  table_take acc [] = let e : ◌≡◌ {A = List A} (acc ++ []) acc = simp append-nil in ap (take (length acc)) (sym e) ∙ take_at acc [] (length acc) refl
+  table_take acc [] = take_all (length acc) acc (omega arith)
   table_take acc (n ∷ ns) =
       let more = acc ++ (f acc n ∷ []) in
-      let e = table_take more ns in
       let l : length acc ≤ length more = omega (arith, length_push acc (f acc n)) in
-      sym (take-take (length acc) (length more) (table f more ns) l) ∙ ap (take (length acc)) e ∙ take_at acc (f acc n ∷ []) (length acc) refl
+      sym (take-take (length acc) (length more) (table f more ns) l) ∙ ap (take (length acc)) (table_take more ns) ∙ take_at acc (f acc n ∷ []) (length acc) refl
 
   -- what was made before is kept
   pub table_front : (acc : List A) (ns : Bank) (i : ℕ) (d : A) → i < length acc → get_or (table f acc ns) i d ≡ get_or acc i d

@@ -5,7 +5,7 @@ ghost use Rattle.terms.specs.Codes.{type_code, type_name, type_from_code};
 use crate::refusal::Refusal;
 
 /// The types of values. `N` is how the name of an entity or extension type is given.
-#[derive(Clone, Copy)]
+#[derive(Clone, Copy, Debug, PartialEq, Eq, PartialOrd, Ord)]
 pub enum Type<N> {
     Bool,
     Long,
@@ -42,6 +42,7 @@ impl<N: Copy> Type<N> {
         }
     }
 
+    // No `TryFrom`: the number comes with a name that may be missing.
     /// The type of a number, with a name exactly at 5 and 6; or refusal 2.
     pub fn from_code(code: u8, name: Option<N>) -> Result<Type<N>, Refusal>
         ensures { result ≡ type_from_code code name }

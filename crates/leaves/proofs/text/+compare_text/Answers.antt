@@ -1,6 +1,6 @@
 use Rattle.std.proofs.Common.{arith, ltb-false, ltb-true}
-use Rattle.orders.proofs.Slices.{both_empty, first_empty, second_empty, first_alike}
-use Rattle.orders.proofs.text.+compare_text.Goals as goal
+use Rattle.leaves.proofs.Slices.{both_empty, first_empty, second_empty, first_alike}
+use Rattle.leaves.proofs.text.+compare_text.Goals as goal
 use Rattle.std.specs.Ordering.{nat_cmp}
 
 pub returns-in-empty-empty : goal.returns-in-empty-empty
