@@ -1,178 +1,213 @@
 //! How the leaves of a condition tree are fed to a hasher.
 #![tactic(auto)]
 
-ghost use Rattle.std.specs.Prelude.{◌≡◌, ◌++◌};
+ghost use Rattle.std.specs.Prelude.{◌≡◌, ◌++◌, ℕ, List};
 ghost use Rattle.std.specs.Option.{option_map};
 ghost use Rattle.std.specs.Int.{w64};
 ghost use Rattle.std.proofs.Common.{of_z};
-ghost use Rattle.terms.specs.Feed.{bytes, feed_elem, feed_length, feed_list, feed_literal, feed_maybe, feed_name, feed_number, feed_option, feed_text, feed_type};
+ghost use Rattle.terms.specs.Feed.{bytes as le_bytes, feed_elem, feed_length, feed_list, feed_literal, feed_name, feed_number, feed_option, feed_text, feed_type};
+ghost use Rattle.leaves.specs.Texts.{text_of};
 ghost use Rattle.leaves.specs.Values.{elem_of, literal_of, name_of, pattern_of, texts_of, type_of};
 ghost use Rattle.terms.specs.Hashers.{fed};
 
-use hashers::hasher::{Hasher, write_all};
+use hashers::hasher::Hasher;
 use leaves::literal::{Literal, Unknown};
 use leaves::name::Name;
 use leaves::pattern::PatternElem;
+use leaves::text::Text;
 use leaves::text_list::TextList;
 use terms::types::Type;
 
-// The mark before an element of a pattern: SCALAR or WILDCARD.
-const SCALAR: u8 = 0;
-
-const WILDCARD: u8 = 1;
-
-// The mark before a type, or in place of one: SOME or NONE.
-const NONE: u8 = 0;
-
-const SOME: u8 = 1;
-
-// The mark before a literal: its case, BOOL to ENTITY.
-const BOOL: u8 = 0;
-
-const LONG: u8 = 1;
-
-const STRING: u8 = 2;
-
-const ENTITY: u8 = 3;
-
-/// Feeds a count: eight bytes, least first.
-pub fn write_count<H: Hasher>(h: &mut H, n: u64)
-    ensures { H.Hasher.state h.new ≡ fed H.Hasher.next (H.Hasher.state h.old) (feed_number n) }
-{
-    write_all(h, &n.to_le_bytes());
+// The mark before an element of a pattern.
+#[derive(Clone, Copy)]
+enum ElemMark {
+    Scalar = 0,
+    Wildcard = 1,
 }
 
-/// Feeds a Long: eight bytes, least first, in two's complement.
-pub fn write_long<H: Hasher>(h: &mut H, z: i64)
-    ensures { H.Hasher.state h.new ≡ fed H.Hasher.next (H.Hasher.state h.old) (bytes 8 (of_z w64 z)) }
-{
-    write_all(h, &z.to_le_bytes());
+// The mark before a type, or in place of one.
+#[derive(Clone, Copy)]
+enum TypeMark {
+    None = 0,
+    Some = 1,
 }
 
-/// Feeds a text's length: eight bytes, least first.
-pub fn write_length<H: Hasher>(h: &mut H, len: u64)
-    ensures { H.Hasher.state h.new ≡ fed H.Hasher.next (H.Hasher.state h.old) (feed_length len) }
-{
-    write_all(h, &len.to_le_bytes());
+// The mark before a literal.
+#[derive(Clone, Copy)]
+enum LiteralMark {
+    Bool = 0,
+    Long = 1,
+    String = 2,
+    Entity = 3,
 }
 
-/// Feeds a text: its length, then its bytes.
-pub fn write_text<H: Hasher>(h: &mut H, t: &[u8])
-    ensures { H.Hasher.state h.new ≡ fed H.Hasher.next (H.Hasher.state h.old) (feed_text t.now) }
-{
-    write_length(h, t.len() as u64);
-    write_all(h, t);
+/// What can be fed to a hasher.
+pub trait Feed {
+    // The bytes that a value is fed as.
+    ghost bytes: { Self → List ℕ };
+
+    /// Feeds the bytes of the value.
+    fn feed<H: Hasher>(&self, h: &mut H)
+        ensures { H.state h.new ≡ fed H.next (H.state h.old) (bytes self.now) };
 }
 
-/// Feeds texts: how many, then each.
-pub fn write_texts<H: Hasher>(h: &mut H, ts: TextList)
-    ensures { H.Hasher.state h.new ≡ fed H.Hasher.next (H.Hasher.state h.old) (feed_list feed_text (texts_of ts.entry)) }
-{
-    write_count(h, ts.len() as u64);
-    for at in 0..ts.len() {
-        write_member(h, ts.get(at));
+/// How many members a list has: eight bytes, least first.
+#[derive(Clone, Copy, Debug, PartialEq, Eq)]
+pub struct Count(pub u64);
+
+impl Feed for Count {
+    ghost bytes = { λ n. feed_number n.0 };
+
+    fn feed<H: Hasher>(&self, h: &mut H) {
+        let Count(n) = self;
+        h.write_all(&n.to_le_bytes());
     }
 }
 
-// Feeds a member of a list, and nothing past its end.
-fn write_member<H: Hasher>(h: &mut H, t: Option<&[u8]>)
-    ensures { H.Hasher.state h.new ≡ fed H.Hasher.next (H.Hasher.state h.old) (feed_maybe feed_text (option_map (λ x. x.now) t.entry)) }
-{
-    if let Some(t) = t {
-        write_text(h, t);
+// Apart from `Count`, since one of the two encodings may change alone.
+/// How long a text is: eight bytes, least first.
+#[derive(Clone, Copy, Debug, PartialEq, Eq)]
+pub struct Length(pub u64);
+
+impl Feed for Length {
+    ghost bytes = { λ n. feed_length n.0 };
+
+    fn feed<H: Hasher>(&self, h: &mut H) {
+        let Length(len) = self;
+        h.write_all(&len.to_le_bytes());
     }
 }
 
-/// Feeds a name: the base, then the namespaces.
-pub fn write_name<H: Hasher>(h: &mut H, n: Name)
-    ensures { H.Hasher.state h.new ≡ fed H.Hasher.next (H.Hasher.state h.old) (feed_name (name_of n.entry)) }
-{
-    write_text(h, n.base);
-    write_texts(h, n.namespaces);
-}
+/// A Long: eight bytes, least first, in two's complement.
+impl Feed for i64 {
+    ghost bytes = { λ z. le_bytes 8 (of_z w64 z) };
 
-// Feeds an element of a pattern: a mark, and a scalar's four bytes, least first.
-fn write_elem<H: Hasher>(h: &mut H, e: PatternElem)
-    ensures { H.Hasher.state h.new ≡ fed H.Hasher.next (H.Hasher.state h.old) (feed_elem (elem_of e)) }
-{
-    match e {
-        PatternElem::Scalar(scalar) => {
-            h.write(SCALAR);
-            write_all(h, &scalar.to_le_bytes());
-        }
-        PatternElem::Wildcard => h.write(WILDCARD),
+    fn feed<H: Hasher>(&self, h: &mut H) {
+        h.write_all(&self.to_le_bytes());
     }
 }
 
-/// Feeds a pattern: how many elements, then each.
-pub fn write_pattern<H: Hasher>(h: &mut H, p: &[PatternElem])
-    ensures { H.Hasher.state h.new ≡ fed H.Hasher.next (H.Hasher.state h.old) (feed_list feed_elem (pattern_of p.now)) }
-{
-    write_count(h, p.len() as u64);
-    for e in p {
-        write_elem(h, *e);
+/// A text: its length, then its bytes.
+impl Feed for Text<'_> {
+    ghost bytes = { λ t. feed_text (text_of t) };
+
+    fn feed<H: Hasher>(&self, h: &mut H) {
+        Length(self.0.len() as u64).feed(h);
+        h.write_all(self.0);
     }
 }
 
-/// Feeds a type: its number, and its name, where it has one.
-pub fn write_type<H: Hasher>(h: &mut H, t: Type<Name>)
-    ensures { H.Hasher.state h.new ≡ fed H.Hasher.next (H.Hasher.state h.old) (feed_type (type_of t.entry)) }
-{
-    h.write(t.code());
-    write_any_name(h, t.name());
-}
+/// Texts: how many, then each.
+impl Feed for TextList<'_> {
+    ghost bytes = { λ ts. feed_list feed_text (texts_of ts) };
 
-// Feeds a name, where there is one.
-fn write_any_name<H: Hasher>(h: &mut H, n: Option<Name>)
-    ensures { H.Hasher.state h.new ≡ fed H.Hasher.next (H.Hasher.state h.old) (feed_maybe feed_name (option_map name_of n.entry)) }
-{
-    if let Some(n) = n {
-        write_name(h, n);
-    }
-}
-
-// Feeds a mark, and the type where there is one.
-fn write_annotation<H: Hasher>(h: &mut H, t: Option<Type<Name>>)
-    ensures { H.Hasher.state h.new ≡ fed H.Hasher.next (H.Hasher.state h.old) (feed_option feed_type (option_map type_of t.entry)) }
-{
-    match t {
-        None => h.write(NONE),
-        Some(t) => {
-            h.write(SOME);
-            write_type(h, t);
+    fn feed<H: Hasher>(&self, h: &mut H) {
+        Count(self.len() as u64).feed(h);
+        for text in self.iter() {
+            text.feed(h);
         }
     }
 }
 
-/// Feeds a literal: its case, then what it holds.
-pub fn write_literal<H: Hasher>(h: &mut H, l: Literal<&[u8], Name>)
-    ensures { H.Hasher.state h.new ≡ fed H.Hasher.next (H.Hasher.state h.old) (feed_literal (literal_of l.entry)) }
-{
-    match l {
-        Literal::Bool(b) => {
-            h.write(BOOL);
-            h.write(u8::from(b));
-        }
-        Literal::Long(z) => {
-            h.write(LONG);
-            write_long(h, z);
-        }
-        Literal::String(t) => {
-            h.write(STRING);
-            write_text(h, t);
-        }
-        Literal::Entity(n, t) => {
-            h.write(ENTITY);
-            write_name(h, n);
-            write_text(h, t);
+/// A name: the base, then the namespaces.
+impl Feed for Name<'_> {
+    ghost bytes = { λ n. feed_name (name_of n) };
+
+    fn feed<H: Hasher>(&self, h: &mut H) {
+        self.base.feed(h);
+        self.namespaces.feed(h);
+    }
+}
+
+/// An element of a pattern: a mark, and a scalar's four bytes, least first.
+impl Feed for PatternElem {
+    ghost bytes = { λ e. feed_elem (elem_of e) };
+
+    fn feed<H: Hasher>(&self, h: &mut H) {
+        match self {
+            PatternElem::Scalar(scalar) => {
+                h.write(ElemMark::Scalar as u8);
+                h.write_all(&scalar.to_le_bytes());
+            }
+            PatternElem::Wildcard => h.write(ElemMark::Wildcard as u8),
         }
     }
 }
 
-/// Feeds an unknown: its name, then its type, if it has one.
-pub fn write_unknown<H: Hasher>(h: &mut H, u: Unknown<&[u8], Name>)
-    ensures { H.Hasher.state h.new ≡ fed H.Hasher.next (H.Hasher.state h.old) (feed_text u.entry.name.now ++ feed_option feed_type (option_map type_of u.entry.type_annotation)) }
-{
-    write_text(h, u.name);
-    write_annotation(h, u.type_annotation);
+/// A pattern: how many elements, then each.
+impl Feed for &[PatternElem] {
+    ghost bytes = { λ p. feed_list feed_elem (pattern_of p.now) };
+
+    fn feed<H: Hasher>(&self, h: &mut H) {
+        // The lines of `TextList` again: one function for both would need clauses on the iterator's end.
+        let elems = *self;
+        Count(elems.len() as u64).feed(h);
+        for elem in elems {
+            elem.feed(h);
+        }
+    }
+}
+
+/// A type: its number, and its name, where it has one.
+impl Feed for Type<Name<'_>> {
+    ghost bytes = { λ t. feed_type (type_of t) };
+
+    fn feed<H: Hasher>(&self, h: &mut H) {
+        h.write(self.code());
+        if let Some(name) = self.name() {
+            name.feed(h);
+        }
+    }
+}
+
+/// A mark, and the type where there is one.
+impl Feed for Option<Type<Name<'_>>> {
+    ghost bytes = { λ o. feed_option feed_type (option_map type_of o) };
+
+    fn feed<H: Hasher>(&self, h: &mut H) {
+        match self {
+            None => h.write(TypeMark::None as u8),
+            Some(t) => {
+                h.write(TypeMark::Some as u8);
+                t.feed(h);
+            }
+        }
+    }
+}
+
+/// A literal: its case, then what it holds.
+impl Feed for Literal<Text<'_>, Name<'_>> {
+    ghost bytes = { λ l. feed_literal (literal_of l) };
+
+    fn feed<H: Hasher>(&self, h: &mut H) {
+        match self {
+            Literal::Bool(b) => {
+                h.write(LiteralMark::Bool as u8);
+                h.write(u8::from(*b));
+            }
+            Literal::Long(z) => {
+                h.write(LiteralMark::Long as u8);
+                z.feed(h);
+            }
+            Literal::String(t) => {
+                h.write(LiteralMark::String as u8);
+                t.feed(h);
+            }
+            Literal::Entity(n, t) => {
+                h.write(LiteralMark::Entity as u8);
+                n.feed(h);
+                t.feed(h);
+            }
+        }
+    }
+}
+
+/// An unknown: its name, then its type, if it has one.
+impl Feed for Unknown<Text<'_>, Name<'_>> {
+    ghost bytes = { λ u. feed_text (text_of u.name) ++ feed_option feed_type (option_map type_of u.type_annotation) };
+
+    fn feed<H: Hasher>(&self, h: &mut H) {
+        self.name.feed(h);
+        self.type_annotation.feed(h);
+    }
 }

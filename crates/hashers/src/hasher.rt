@@ -13,13 +13,13 @@ pub trait Hasher {
     /// Moves to the next state; no byte is refused.
     fn write(&mut self, byte: u8)
         ensures { state self.new ≡ next (state self.old) byte };
-}
 
-/// Feeds the bytes themselves.
-pub fn write_all<H: Hasher>(h: &mut H, bytes: &[u8])
-    ensures { H.Hasher.state h.new ≡ fed H.Hasher.next (H.Hasher.state h.old) bytes.now }
-{
-    for b in bytes {
-        h.write(*b);
+    /// Feeds the bytes themselves.
+    fn write_all(&mut self, bytes: &[u8])
+        ensures { state self.new ≡ fed next (state self.old) bytes.now }
+    {
+        for &b in bytes {
+            self.write(b);
+        }
     }
 }

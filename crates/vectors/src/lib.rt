@@ -3,22 +3,19 @@
 
 #[cfg(test)]
 mod tests {
-    use feeds::{
-        write_literal, write_long, write_name, write_pattern, write_text, write_type, write_unknown,
-    };
+    use feeds::Feed;
     use hashers::fnv::fnv1a;
     use hashers::hasher::Hasher;
     use hashers::tape::Tape;
     use leaves::literal::{Literal, Unknown};
     use leaves::name::Name;
     use leaves::pattern::PatternElem;
+    use leaves::text::{Text, compare_text};
     use leaves::text_list::{Span, TextList};
     use orders::literal::compare_literal;
     use orders::name::compare_name;
     use orders::pattern::compare_pattern;
-    use orders::text::compare_text;
     use orders::texts::compare_texts;
-    use std::cmp::Ordering;
     use terms::types::Type;
 
     // Texts with their published digests.
@@ -36,7 +33,7 @@ mod tests {
     ];
 
     const NAME: Name<'static> = Name {
-        base: b"P",
+        base: Text(b"P"),
         namespaces: TextList::Given(&[]),
     };
 
@@ -62,32 +59,30 @@ mod tests {
     #[test]
     fn counted_layouts(rt: HostRuntime) {
         let mut tape = Tape::new();
-        write_text(&mut tape, b"hi");
+        Text(b"hi").feed(&mut tape);
         assert_eq!(rt; tape.bytes(), b"\x02\0\0\0\0\0\0\0hi".as_slice());
 
         let mut tape = Tape::new();
         let name = Name {
-            base: b"P",
+            base: Text(b"P"),
             namespaces: TextList::Given(&[b"N"]),
         };
-        write_name(&mut tape, name);
+        name.feed(&mut tape);
         assert_eq!(rt;
             tape.bytes(),
             b"\x01\0\0\0\0\0\0\0P\x01\0\0\0\0\0\0\0\x01\0\0\0\0\0\0\0N".as_slice()
         );
 
         let mut tape = Tape::new();
-        write_pattern(
-            &mut tape,
-            &[PatternElem::Scalar(0x1F600), PatternElem::Wildcard],
-        );
+        let pattern = [PatternElem::Scalar(0x1F600), PatternElem::Wildcard];
+        pattern.as_slice().feed(&mut tape);
         assert_eq!(rt;
             tape.bytes(),
             b"\x02\0\0\0\0\0\0\0\0\0\xf6\x01\0\x01".as_slice()
         );
 
         let mut tape = Tape::new();
-        write_long(&mut tape, -2);
+        (-2_i64).feed(&mut tape);
         assert_eq!(rt;
             tape.bytes(),
             b"\xfe\xff\xff\xff\xff\xff\xff\xff".as_slice()
@@ -98,33 +93,37 @@ mod tests {
     #[test]
     fn marked_layouts(rt: HostRuntime) {
         let mut tape = Tape::new();
-        write_type(&mut tape, Type::Entity(NAME));
-        write_type(&mut tape, Type::Set);
+        Type::Entity(NAME).feed(&mut tape);
+        Type::<Name>::Set.feed(&mut tape);
         assert_eq!(rt;
             tape.bytes(),
             b"\x05\x01\0\0\0\0\0\0\0P\0\0\0\0\0\0\0\0\x03".as_slice()
         );
 
         let mut tape = Tape::new();
-        let name: &[u8] = b"p";
         let unknown = Unknown {
-            name,
-            type_annotation: Some(Type::Long),
+            name: Text(b"p"),
+            type_annotation: Some(Type::<Name>::Long),
         };
-        write_unknown(&mut tape, unknown);
+        unknown.feed(&mut tape);
         assert_eq!(rt; tape.bytes(), b"\x01\0\0\0\0\0\0\0p\x01\x01".as_slice());
 
         let mut tape = Tape::new();
-        write_literal(&mut tape, Literal::Bool(true));
-        write_literal(&mut tape, Literal::Long(1));
-        write_literal(&mut tape, Literal::String(b"s"));
+        let literals: [Literal<Text, Name>; 3] = [
+            Literal::Bool(true),
+            Literal::Long(1),
+            Literal::String(Text(b"s")),
+        ];
+        for literal in literals {
+            literal.feed(&mut tape);
+        }
         assert_eq!(rt;
             tape.bytes(),
             b"\0\x01\x01\x01\0\0\0\0\0\0\0\x02\x01\0\0\0\0\0\0\0s".as_slice()
         );
 
         let mut tape = Tape::new();
-        write_literal(&mut tape, Literal::Entity(NAME, b"i"));
+        Literal::Entity(NAME, Text(b"i")).feed(&mut tape);
         assert_eq!(rt;
             tape.bytes(),
             b"\x03\x01\0\0\0\0\0\0\0P\0\0\0\0\0\0\0\0\x01\0\0\0\0\0\0\0i".as_slice()
@@ -138,16 +137,8 @@ mod tests {
     fn texts_in_order(rt: HostRuntime) {
         for (i, a) in TEXTS.iter().enumerate() {
             for (j, b) in TEXTS.iter().enumerate() {
-                assert!(rt; matches_places(compare_text(a, b), i, j));
+                assert_eq!(rt; compare_text(a, b), i.cmp(&j));
             }
-        }
-    }
-
-    fn matches_places(answer: Ordering, i: usize, j: usize) -> bool {
-        match answer {
-            Ordering::Less => i < j,
-            Ordering::Equal => i == j,
-            Ordering::Greater => i > j,
         }
     }
 
@@ -155,7 +146,13 @@ mod tests {
     fn leaves_in_order(rt: HostRuntime) {
         assert!(rt; compare_literal(Literal::Long(-1), Literal::Long(0)).is_lt());
         assert!(rt; compare_literal(Literal::Bool(true), Literal::Long(-9)).is_lt());
-        assert!(rt; compare_literal(Literal::String(b"z"), Literal::Entity(NAME, b"")).is_lt());
+        assert!(rt;
+            compare_literal(
+                Literal::String(Text(b"z")),
+                Literal::Entity(NAME, Text(b""))
+            )
+            .is_lt()
+        );
         let wildcard = [PatternElem::Wildcard];
         let scalar = [PatternElem::Scalar(0x10FFFF), PatternElem::Scalar(0)];
         assert!(rt; compare_pattern(&scalar, &wildcard).is_lt());
@@ -170,7 +167,7 @@ mod tests {
         assert!(rt; compare_texts(kept, TextList::Given(&[b"cde", b"ab"])).is_eq());
         assert!(rt; compare_texts(kept, TextList::Given(&[b"cde"])).is_gt());
         let name = Name {
-            base: b"P",
+            base: Text(b"P"),
             namespaces: kept,
         };
         assert!(rt; compare_name(NAME, name).is_lt());
