@@ -1,5 +1,5 @@
 // The check of a leaf.
-ghost use Rattle.std.specs.Prelude.{◌≡◌, true};
+ghost use Rattle.std.specs.Prelude.{◌≡◌, ℕ, true};
 ghost use Rattle.codes.specs.Codes.{kind_code, sort_code};
 ghost use Rattle.terms.specs.Kinds.{sort};
 ghost use Rattle.leaves.specs.Values.{leaf_of};
@@ -8,17 +8,10 @@ ghost use Rattle.model.specs.Checks.{leaf_fits, leaf_short};
 ghost use Rattle.model.specs.Costs.{leaf_bytes};
 ghost use Rattle.checks.specs.Checked.{leaf_cost};
 
-use crate::literal::{literal_bytes, literal_fits, literal_short};
-use crate::name::{name_bytes, name_fits, name_short};
-use crate::pattern::pattern_fits;
-use crate::texts::{all_short, list_bytes, text_short};
-use crate::unknown::{unknown_bytes, unknown_fits, unknown_short};
+use crate::part::Part;
 use codes::kind::{Kind, LeafSort};
 use leaves::leaf::{Given, Leaf};
 use terms::refusal::Refusal;
-
-// The most attributes that an extended has may have.
-const MAX_TEXTS: usize = 16;
 
 // Which sort of leaf it is.
 fn sort_of(leaf: Given<'_>) -> LeafSort
@@ -36,6 +29,8 @@ fn sort_of(leaf: Given<'_>) -> LeafSort
     }
 }
 
+// These three are functions and no `Part`: the bounds of a leaf depend on how many codes its kind has.
+
 // Whether it is in bounds, where a code is below `codes`.
 fn leaf_fits(codes: u8, leaf: Given<'_>) -> bool
     ensures fits { result ≡ leaf_fits codes (leaf_of leaf.entry) }
@@ -43,12 +38,12 @@ fn leaf_fits(codes: u8, leaf: Given<'_>) -> bool
 {
     match leaf {
         Leaf::Nothing | Leaf::Text(_) => true,
-        Leaf::Literal(literal) => literal_fits(literal),
+        Leaf::Literal(literal) => literal.fits(),
         Leaf::Code(code) => code < codes,
-        Leaf::Unknown(unknown) => unknown_fits(unknown),
-        Leaf::Name(name) => name_fits(name),
-        Leaf::Texts(texts) => texts.len() > 1 && texts.len() <= MAX_TEXTS,
-        Leaf::Pattern(pattern) => pattern_fits(pattern),
+        Leaf::Unknown(unknown) => unknown.fits(),
+        Leaf::Name(name) => name.fits(),
+        Leaf::Texts(texts) => texts.len() > 1 && texts.fits(),
+        Leaf::Pattern(pattern) => pattern.fits(),
     }
 }
 
@@ -58,28 +53,28 @@ fn leaf_short(leaf: Given<'_>) -> bool
 {
     match leaf {
         Leaf::Nothing | Leaf::Code(_) | Leaf::Pattern(_) => true,
-        Leaf::Literal(literal) => literal_short(literal),
-        Leaf::Unknown(unknown) => unknown_short(unknown),
-        Leaf::Name(name) => name_short(name),
-        Leaf::Text(text) => text_short(text),
-        Leaf::Texts(texts) => all_short(texts),
+        Leaf::Literal(literal) => literal.short(),
+        Leaf::Unknown(unknown) => unknown.short(),
+        Leaf::Name(name) => name.short(),
+        Leaf::Text(text) => text.short(),
+        Leaf::Texts(texts) => texts.short(),
     }
 }
 
-// The bytes that it takes: four for each element of a pattern.
-fn leaf_bytes(codes: u8, leaf: Given<'_>) -> usize
-    requires fits { leaf_fits codes (leaf_of leaf) ≡ true }
+// The bytes that it takes.
+fn leaf_bytes(leaf: Given<'_>) -> usize
+    requires fits { (codes : ℕ) × (leaf_fits codes (leaf_of leaf) ≡ true) }
     requires short { leaf_short (leaf_of leaf) ≡ true }
     ensures { result ≡ leaf_bytes (leaf_of leaf.entry) }
 {
     match leaf {
         Leaf::Nothing | Leaf::Code(_) => 0,
-        Leaf::Literal(literal) => literal_bytes(literal),
-        Leaf::Unknown(unknown) => unknown_bytes(unknown),
-        Leaf::Name(name) => name_bytes(name),
-        Leaf::Text(text) => text.len(),
-        Leaf::Texts(texts) => list_bytes(texts),
-        Leaf::Pattern(pattern) => 4 * pattern.len(),
+        Leaf::Literal(literal) => literal.bytes(),
+        Leaf::Unknown(unknown) => unknown.bytes(),
+        Leaf::Name(name) => name.bytes(),
+        Leaf::Text(text) => text.bytes(),
+        Leaf::Texts(texts) => texts.bytes(),
+        Leaf::Pattern(pattern) => pattern.bytes(),
     }
 }
 
@@ -89,11 +84,11 @@ pub fn check_leaf(kind: Kind, leaf: Given<'_>) -> Result<usize, Refusal>
     ensures long { LongOk (leaf_of leaf.entry) }
 {
     let codes = kind.codes();
-    if !leaf_fits(codes, leaf) || sort_of(leaf).code() != kind.leaf().code() {
+    if !leaf_fits(codes, leaf) || sort_of(leaf) != kind.leaf() {
         return Err(Refusal::Leaf);
     }
     if !leaf_short(leaf) {
         return Err(Refusal::Text);
     }
-    Ok(leaf_bytes(codes, leaf))
+    Ok(leaf_bytes(leaf))
 }

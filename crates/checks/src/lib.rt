@@ -4,6 +4,7 @@
 pub mod leaf;
 mod literal;
 mod name;
+mod part;
 mod pattern;
 mod texts;
 mod unknown;

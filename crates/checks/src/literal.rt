@@ -1,47 +1,49 @@
 // Literals.
-ghost use Rattle.std.specs.Prelude.{◌≡◌, true};
+ghost use Rattle.std.specs.Prelude.{◌≡◌, ◌*◌};
 ghost use Rattle.terms.specs.Terms.{Leaf};
 ghost use Rattle.leaves.specs.Values.{literal_of};
 ghost use Rattle.model.specs.Build.{LongOk};
 ghost use Rattle.model.specs.Checks.{literal_fits, literal_short};
 ghost use Rattle.model.specs.Costs.{literal_bytes};
 
-use crate::name::{name_bytes, name_fits, name_short};
-use crate::texts::text_short;
+use crate::part::Part;
 use leaves::literal::Literal;
 use leaves::name::Name;
+use leaves::text::Text;
 
-// Whether an entity's name is in bounds. That a Long has 64 bits its type says.
-pub(crate) fn literal_fits(literal: Literal<&[u8], Name<'_>>) -> bool
-    ensures fits { result ≡ literal_fits (literal_of literal.entry) }
-    ensures long { LongOk (Leaf.literal (literal_of literal.entry)) }
-{
-    match literal {
-        Literal::Bool(_) | Literal::Long(_) | Literal::String(_) => true,
-        Literal::Entity(name, _) => name_fits(name),
+impl Part for Literal<Text<'_>, Name<'_>> {
+    ghost fits = { λ l. literal_fits (literal_of l) };
+
+    ghost short = { λ l. literal_short (literal_of l) };
+
+    ghost bytes = { λ l. literal_bytes (literal_of l) };
+
+    ghost max_bytes = { 514 * 18 };
+
+    // That a Long has 64 bits its type says.
+    fn fits(self) -> bool
+        ensures fits { result ≡ literal_fits (literal_of self.entry) }
+        ensures long { LongOk (Leaf.literal (literal_of self.entry)) }
+    {
+        match self {
+            Literal::Bool(_) | Literal::Long(_) | Literal::String(_) => true,
+            Literal::Entity(name, _) => name.fits(),
+        }
     }
-}
 
-// Whether its texts are short.
-pub(crate) fn literal_short(literal: Literal<&[u8], Name<'_>>) -> bool
-    ensures { result ≡ literal_short (literal_of literal.entry) }
-{
-    match literal {
-        Literal::Bool(_) | Literal::Long(_) => true,
-        Literal::String(text) => text_short(text),
-        Literal::Entity(name, id) => name_short(name) && text_short(id),
+    fn short(self) -> bool {
+        match self {
+            Literal::Bool(_) | Literal::Long(_) => true,
+            Literal::String(text) => text.short(),
+            Literal::Entity(name, id) => name.short() && id.short(),
+        }
     }
-}
 
-// The bytes that its texts take.
-pub(crate) fn literal_bytes(literal: Literal<&[u8], Name<'_>>) -> usize
-    requires fits { literal_fits (literal_of literal) ≡ true }
-    requires short { literal_short (literal_of literal) ≡ true }
-    ensures { result ≡ literal_bytes (literal_of literal.entry) }
-{
-    match literal {
-        Literal::Bool(_) | Literal::Long(_) => 0,
-        Literal::String(text) => text.len(),
-        Literal::Entity(name, id) => name_bytes(name) + id.len(),
+    fn bytes(self) -> usize {
+        match self {
+            Literal::Bool(_) | Literal::Long(_) => 0,
+            Literal::String(text) => text.bytes(),
+            Literal::Entity(name, id) => name.bytes() + id.bytes(),
+        }
     }
 }

@@ -1,77 +1,58 @@
 // Unknowns and their types.
-ghost use Rattle.std.specs.Prelude.{◌≡◌, ◌+◌, ◌*◌, ◌≤◌, true, ◌&&◌, length};
+ghost use Rattle.std.specs.Prelude.{◌+◌, ◌*◌, ◌&&◌, length};
 ghost use Rattle.std.specs.Option.{option_map};
+ghost use Rattle.leaves.specs.Texts.{text_of};
 ghost use Rattle.leaves.specs.Values.{type_of};
 ghost use Rattle.model.specs.Checks.{any, text_short, type_fits, type_short};
 ghost use Rattle.model.specs.Costs.{maybe_bytes, type_bytes};
 
-use crate::name::{name_bytes, name_fits, name_short};
-use crate::texts::text_short;
+use crate::part::Part;
 use leaves::literal::Unknown;
 use leaves::name::Name;
+use leaves::text::Text;
 use terms::types::Type;
 
-// Whether the type's name is in bounds. That it has one exactly at 5 and 6 the enum says.
-fn type_fits(ty: Type<Name<'_>>) -> bool
-    ensures { result ≡ type_fits (type_of ty.entry) }
-{
-    match ty.name() {
-        Some(name) => name_fits(name),
-        None => true,
+impl Part for Type<Name<'_>> {
+    ghost fits = { λ t. type_fits (type_of t) };
+
+    ghost short = { λ t. type_short (type_of t) };
+
+    ghost bytes = { λ t. type_bytes (type_of t) };
+
+    ghost max_bytes = { 514 * 17 };
+
+    // That it has a name exactly at 5 and 6 the enum says.
+    fn fits(self) -> bool {
+        self.name().fits()
+    }
+
+    fn short(self) -> bool {
+        self.name().short()
+    }
+
+    fn bytes(self) -> usize {
+        self.name().bytes()
     }
 }
 
-// Whether the texts of its name are short.
-fn type_short(ty: Type<Name<'_>>) -> bool
-    ensures { result ≡ type_short (type_of ty.entry) }
-{
-    match ty.name() {
-        Some(name) => name_short(name),
-        None => true,
-    }
-}
+impl Part for Unknown<Text<'_>, Name<'_>> {
+    ghost fits = { λ u. any type_fits (option_map type_of u.type_annotation) };
 
-// The bytes that its name takes.
-fn type_bytes(ty: Type<Name<'_>>) -> usize
-    requires fits { type_fits (type_of ty) ≡ true }
-    requires short { type_short (type_of ty) ≡ true }
-    ensures value { result ≡ type_bytes (type_of ty.entry) }
-    ensures bound { result ≤ 514 * 17 }
-{
-    match ty.name() {
-        Some(name) => name_bytes(name),
-        None => 0,
-    }
-}
+    ghost short = { λ u. text_short (text_of u.name) && any type_short (option_map type_of u.type_annotation) };
 
-// Whether its type, where it has one, is in bounds.
-pub(crate) fn unknown_fits(unknown: Unknown<&[u8], Name<'_>>) -> bool
-    ensures { result ≡ any type_fits (option_map type_of unknown.entry.type_annotation) }
-{
-    match unknown.type_annotation {
-        Some(ty) => type_fits(ty),
-        None => true,
-    }
-}
+    ghost bytes = { λ u. length (text_of u.name) + maybe_bytes type_bytes (option_map type_of u.type_annotation) };
 
-// Whether its texts are short.
-pub(crate) fn unknown_short(unknown: Unknown<&[u8], Name<'_>>) -> bool
-    ensures { result ≡ (text_short unknown.entry.name.now && any type_short (option_map type_of unknown.entry.type_annotation)) }
-{
-    match unknown.type_annotation {
-        Some(ty) => text_short(unknown.name) && type_short(ty),
-        None => text_short(unknown.name),
-    }
-}
+    ghost max_bytes = { 514 * 18 };
 
-// The bytes that its texts take.
-pub(crate) fn unknown_bytes(unknown: Unknown<&[u8], Name<'_>>) -> usize
-    requires fits { any type_fits (option_map type_of unknown.type_annotation) ≡ true }
-    requires short { (text_short unknown.name.now && any type_short (option_map type_of unknown.type_annotation)) ≡ true }
-    ensures { result ≡ length unknown.entry.name.now + maybe_bytes type_bytes (option_map type_of unknown.entry.type_annotation) }
-{
-    match unknown.type_annotation {
-        Some(ty) => unknown.name.len() + type_bytes(ty),
-        None => unknown.name.len(),
+    fn fits(self) -> bool {
+        self.type_annotation.fits()
+    }
+
+    fn short(self) -> bool {
+        self.name.short() && self.type_annotation.short()
+    }
+
+    fn bytes(self) -> usize {
+        self.name.bytes() + self.type_annotation.bytes()
     }
 }

@@ -1,27 +1,11 @@
 -- One more member at a place of a list.
-use Rattle.std.proofs.Common.{◌≡◌, ℕ, zero, suc, ◌+◌, Bool, true, List, [], ◌∷◌, map, length, refl, ap, arith}
+use Rattle.std.proofs.Common.{◌≡◌, ℕ, zero, suc, Bool, true, List, [], ◌∷◌, refl}
 use Rattle.std.specs.List.{insert}
 use Rattle.std.proofs.lemmas.Bool.{and_parts, and_from}
-use Rattle.terms.specs.Bank.{Child}
 use Rattle.model.specs.Checks.{every}
-use Rattle.model.specs.Costs.{keys_bytes}
 
 pub every_inserted : {A : Type 0} (f : A → Bool) (xs : List A) (i : ℕ) (x : A) → f x ≡ true → every f xs ≡ true → every f (insert xs i x) ≡ true
-every_inserted f [] zero x e h = and_from (f x) true e refl
-every_inserted f [] (suc i) x e h = and_from (f x) true e refl
-every_inserted f (y ∷ ys) zero x e h = and_from (f x) (every f (y ∷ ys)) e h
-every_inserted f (y ∷ ys) (suc i) x e h =
-    let p = and_parts (f y) (every f ys) h in
-    and_from (f y) (every f (insert ys i x)) p.0 (every_inserted f ys i x e p.1)
-
-pub map_inserted : {A B : Type 0} (f : A → B) (xs : List A) (i : ℕ) (x : A) → map f (insert xs i x) ≡ insert (map f xs) i (f x)
-map_inserted f [] zero x = refl
-map_inserted f [] (suc i) x = refl
-map_inserted f (y ∷ ys) zero x = refl
-map_inserted {B = B} f (y ∷ ys) (suc i) x = ap (λ (r : List B). f y ∷ r) (map_inserted f ys i x)
-
-pub bytes_inserted : (ps : List Child) (i : ℕ) (p : Child) → keys_bytes (insert ps i p) ≡ keys_bytes ps + length p.0
-bytes_inserted [] zero p = omega arith
-bytes_inserted [] (suc i) p = omega arith
-bytes_inserted (c ∷ cs) zero p = omega arith
-bytes_inserted (c ∷ cs) (suc i) p = omega (arith, bytes_inserted cs i p)
+every_inserted f [] zero x e h = and_from _ _ e refl
+every_inserted f [] (suc i) x e h = and_from _ _ e refl
+every_inserted f (y ∷ ys) zero x e h = and_from _ _ e h
+every_inserted f (y ∷ ys) (suc i) x e h = let p = and_parts _ _ h in and_from _ _ p.0 (every_inserted f ys i x e p.1)

@@ -1,2 +1,3 @@
 pub mod Links
+pub mod Iters
 pub mod Entries

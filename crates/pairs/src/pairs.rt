@@ -1,28 +1,135 @@
-// Pairs of key and node. The functions stand in the modules below, since their contracts cite this struct.
-ghost use Rattle.std.specs.Prelude.{◌≡◌, ◌≤◌, true, vec_len, vec_capacity};
-ghost use Rattle.model.specs.Checks.{every, there, keys_rise, key_short};
+// Pairs of key and node.
+ghost use Rattle.std.specs.Prelude.{◌≡◌, ℕ, true, [], length, IfErr, MatchResult};
+ghost use Rattle.std.specs.List.{insert, slice_get};
+ghost use Rattle.terms.specs.declared.refusal.Refusal.TheVariants.{Memory};
+ghost use Rattle.model.specs.Checks.{keys_rise};
 ghost use Rattle.model.specs.Costs.{keys_bytes};
-ghost use Rattle.pairs.specs.Links.{children_of, inside};
+ghost use Rattle.model.specs.Pairs.{Put};
+ghost use Rattle.pairs.specs.Entries.{Draft, seen, Placing};
+ghost use Rattle.pairs.specs.Iters.{pairs_left};
 
+use crate::iter::Iter;
 use crate::link::Link;
+use leaves::text::compare_text;
+use leaves::text_list::Span;
+use std::alloc::Global;
+use std::marker::Model;
+use terms::refusal::{Refusal, check_node};
 
-mod puts;
-mod reads;
+// Limits of the rules; the contracts tie them to the definitions' numbers.
+
+// The node numbers of a bank are below this.
+const NODES: u32 = 512;
+// The most bytes that a key may have.
+const LONGEST: usize = 512;
+// The most pairs.
+const MOST: usize = 64;
+// The most bytes that all keys may have.
+const ROOM: usize = 2048;
 
 /// At most 64 pairs, each key once. All memory is reserved from the start.
-#[derive(Drop)]
+#[derive(Debug, Drop)]
 pub struct Pairs {
     // the key bytes, in the order in which they were put
     bytes: Vec<u8>,
     // in ascending key order
     links: Vec<Link>,
-    ghost bytes_room: { 2048 ≤ vec_capacity bytes },
-    ghost links_room: { 64 ≤ vec_capacity links },
-    ghost few: { vec_len links ≤ 64 },
-    ghost bounded: { vec_len bytes ≤ 2048 },
-    ghost full: { keys_bytes (children_of bytes.items links.items) ≡ vec_len bytes },
-    ghost within: { every (inside (vec_len bytes)) links.items ≡ true },
-    ghost rises: { keys_rise (children_of bytes.items links.items) ≡ true },
-    ghost short: { every key_short (children_of bytes.items links.items) ≡ true },
-    ghost known: { every (there 512) (children_of bytes.items links.items) ≡ true },
+}
+
+impl Model for Pairs {
+    ghost use Rattle.std.specs.Prelude.{List};
+    ghost use Rattle.terms.specs.Bank.{Child};
+
+    ghost Value = { List Child };
+
+    ghost use Rattle.pairs.specs.Entries.{entries, Kept};
+
+    ghost view = { entries };
+
+    ghost invariant = { Kept };
+}
+
+impl Pairs {
+    /// No pairs yet, with memory for all that may come.
+    pub fn new(heap: Global) -> Result<Pairs, Refusal>
+        ensures { MatchResult result (λ p. p ≡ []) (λ e. e ≡ Memory) }
+    {
+        let bytes = Vec::with_capacity(heap, ROOM)?;
+        let links = Vec::with_capacity(heap, MOST)?;
+        Ok(Pairs { bytes, links })
+    }
+
+    /// How many pairs. A caller sees their list alone, so `draft` says here what holds of any.
+    pub fn len(&self) -> usize
+        ensures count { result ≡ length self.now }
+        ensures draft { Draft self.now }
+    {
+        self.links.len()
+    }
+
+    /// The pair at a place, the least key first, and nothing past the end.
+    pub fn get(&self, at: usize) -> Option<(&[u8], u32)>
+        ensures { seen result ≡ slice_get self.now at }
+    {
+        let bytes = self.bytes.as_slice();
+        self.links
+            .get(at)
+            .map(|link| (link.key.of(bytes), link.child))
+    }
+
+    /// The pairs one after another, the least key first.
+    pub fn iter(&self) -> Iter<'_>
+        ensures { pairs_left result ≡ self.now }
+    {
+        Iter {
+            bytes: self.bytes.as_slice(),
+            links: self.links.as_slice(),
+        }
+    }
+
+    /// The bytes of all keys.
+    pub fn key_bytes(&self) -> usize
+        ensures { result ≡ keys_bytes self.now }
+    {
+        self.bytes.len()
+    }
+
+    // Where the key stands, or the place that it would take.
+    fn place(&self, key: &[u8]) -> Result<usize, usize>
+        ensures place { Placing self.now key.now result }
+        ensures rises { IfErr result (λ i. (n : ℕ) → keys_rise (insert self.now i (key.now, n)) ≡ true) }
+    {
+        let bytes = self.bytes.as_slice();
+        self.links
+            .binary_search_by(|link| compare_text(link.key.of(bytes), key))
+    }
+
+    /// Puts a pair at its place. The node's number, the key's length, a key that stands already and want of room are
+    /// refused, in this order, and then nothing changes.
+    pub fn put(&mut self, key: &[u8], node: u32) -> Result<(), Refusal>
+        ensures { Put self.old key.now node result self.new }
+    {
+        check_node(node, NODES)?;
+        if key.len() > LONGEST {
+            return Err(Refusal::Text);
+        }
+        let Err(place) = self.place(key) else {
+            return Err(Refusal::Key);
+        };
+        let start = self.bytes.len();
+        if self.len() >= MOST || start + key.len() > ROOM {
+            return Err(Refusal::Room);
+        }
+        let link = Link {
+            key: Span {
+                start: start as u32,
+                len: key.len() as u32,
+            },
+            child: node,
+        };
+        // Neither fails, since the memory is reserved.
+        let _ = self.bytes.extend_from_slice(key);
+        let _ = self.links.insert(place, link);
+        Ok(())
+    }
 }

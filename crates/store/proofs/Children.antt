@@ -1,17 +1,16 @@
 -- Children as a loop goes through them.
-use Rattle.std.proofs.Common.{◌≡◌, ℕ, zero, suc, ◌+◌, ◌<◌, ◌≤◌, Bool, true, false, ◌&&◌, eqb, leb, List, [], ◌∷◌, length, get_or, drop, Some, None, sym, refl, ap, ◌∙◌, arith}
+use Rattle.std.proofs.Common.{◌≡◌, ℕ, zero, suc, ◌<◌, true, eqb, leb, List, [], ◌∷◌, length, get_or, Some, None, Option, Bor, sym, refl, ap, subst, ◌∙◌, arith, ltb-true, rules}
 use borrow.Author.Tests.{lt-leb}
-use Rattle.std.proofs.Math.Bool.{and-true}
-use Rattle.std.proofs.lemmas.Bool.{and_right}
-use Rattle.std.specs.List.{slice_get}
-use Rattle.std.proofs.lemmas.List.{drop_more, drop_all}
-use Rattle.terms.specs.Kinds.{Children, exactly, many, keyed}
-use Rattle.terms.specs.Shape.{Shape, size, sizes}
-use Rattle.terms.specs.Bank.{Child, nothing, gather}
-use Rattle.model.specs.Checks.{every, keyless, key_short, keys_rise, count_fits, keys_fit}
+use Rattle.std.specs.Option.{unwrap_or}
+use Rattle.std.proofs.lemmas.Bool.{and_parts}
+use Rattle.terms.specs.Bank.{Child}
+use Rattle.model.specs.Checks.{every, there, keyless, key_short, keys_rise}
 use Rattle.model.specs.Costs.{keys_bytes}
 use Rattle.model.specs.Nodes.{numbered}
-use Rattle.model.proofs.Small.{some_same, some_none}
+use Rattle.pairs.specs.Entries.{seen}
+use Rattle.store.specs.Branches.{branches_of, child_now, Drafted}
+use Rattle.store.specs.declared.branches.Branches.{Branches}
+use Rattle.store.specs.declared.branches.Branches.TheVariants as branches
 
 pub length_numbered : (is : List ℕ) → length (numbered is) ≡ length is
 length_numbered [] = refl
@@ -26,50 +25,44 @@ pub keyless_bytes : (is : List ℕ) → keys_bytes (numbered is) ≡ 0
 keyless_bytes [] = refl
 keyless_bytes (i ∷ is) = omega (arith, keyless_bytes is)
 
--- a member that is there, and none
-pub nth_some : {X : Type 0} (xs : List X) (i : ℕ) (x d : X) → Some x ≡ slice_get xs i → x ≡ get_or xs i d
-nth_some [] zero x d e = some_none x e
-nth_some [] (suc i) x d e = some_none x e
-nth_some (y ∷ xs) zero x d e = some_same x y e
-nth_some (y ∷ xs) (suc i) x d e = nth_some xs i x d e
+-- a pair that is read, or another in its place
+pub seen_or : (r : Option (Bor (List ℕ) × ℕ)) (d : Bor (List ℕ) × ℕ) → child_now (unwrap_or r d) ≡ unwrap_or (seen r) (child_now d)
+seen_or None d = refl
+seen_or (Some x) d = refl
 
-pub nth_none : {X : Type 0} (xs : List X) (i : ℕ) (d : X) → None ≡ slice_get xs i → d ≡ get_or xs i d
-nth_none [] zero d e = refl
-nth_none [] (suc i) d e = refl
-nth_none (y ∷ xs) zero d e = some_none y (sym e)
-nth_none (y ∷ xs) (suc i) d e = nth_none xs i d e
+-- where the children that are left are nodes, the next is one
+pub next_there : (n : ℕ) (cs ds : List Child) (c : Child) → cs ≡ c ∷ ds → every (there n) cs ≡ true → (c.1 < n) × (every (there n) ds ≡ true)
+next_there n cs ds c e h =
+    let p = and_parts (there n c) (every (there n) ds) (sym (ap (every (there n)) e) ∙ h) in
+    (ltb-true c.1 n p.0, p.1)
 
--- a turn of a loop that adds up the sizes of children
-pub sizes_more : (ss : List Shape) (cs : List Child) (i : ℕ) → i < length cs
-    → sizes (gather ss (drop i cs)) ≡ size (get_or ss (get_or cs i ([], 0)).1 nothing) + sizes (gather ss (drop (i + 1) cs))
-sizes_more ss cs i h = ap (λ ds. sizes (gather ss ds)) (drop_more cs i ([], 0) h)
+-- ---- keys of children
 
-pub sizes_all : (ss : List Shape) (cs : List Child) (i : ℕ) → length cs ≤ i → sizes (gather ss (drop i cs)) ≡ 0
-sizes_all ss cs i h = ap (λ ds. sizes (gather ss ds)) (drop_all i cs h)
+-- no child has a key where all keys take no bytes
+pub keyless_free : (cs : List Child) → eqb (keys_bytes cs) 0 ≡ every keyless cs
+keyless_free [] = refl
+keyless_free (c ∷ cs) = let h = keyless_free cs in search rules
 
--- ---- children without keys, as their kind has them
+-- two empty keys do not ascend
+rise_numbered : (is : List ℕ) → keys_rise (numbered is) ≡ leb (length is) 1
+rise_numbered [] = refl
+rise_numbered (i ∷ []) = refl
+rise_numbered (i ∷ j ∷ is) = sym (lt-leb (length (i ∷ j ∷ is)) 1 (omega arith))
 
--- what is asked of how many there are
-abbrev pub fit_plain : Children → ℕ → Bool
-fit_plain (exactly n) k = eqb k n
-fit_plain many k = leb k 64
-fit_plain keyed k = leb k 1
-
-keyless_numbered : (is : List ℕ) → every keyless (numbered is) ≡ true
-keyless_numbered [] = refl
-keyless_numbered (i ∷ is) = keyless_numbered is
-
-pub short_numbered : (is : List ℕ) → every key_short (numbered is) ≡ true
+short_numbered : (is : List ℕ) → every key_short (numbered is) ≡ true
 short_numbered [] = refl
 short_numbered (i ∷ is) = short_numbered is
 
--- two empty keys do not ascend
-rise_numbered : (is : List ℕ) → (leb (length (numbered is)) 64 && keys_rise (numbered is)) ≡ leb (length is) 1
-rise_numbered [] = refl
-rise_numbered (i ∷ []) = refl
-rise_numbered (i ∷ j ∷ is) = and_right _ false refl ∙ sym (lt-leb (length (i ∷ j ∷ is)) 1 (omega arith))
+-- no key is too long
+pub short_branches : (b : Branches) → Drafted b → every key_short (branches_of b) ≡ true
+short_branches (branches.Plain is) h = short_numbered is.now
+short_branches (branches.Keyed ps) h = h.short
 
-pub fit_numbered : (m : Children) (is : List ℕ) → (count_fits m (length (numbered is)) && keys_fit m (numbered is)) ≡ fit_plain m (length is)
-fit_numbered (exactly n) is = ap (λ b. eqb (length (numbered is)) n && b) (keyless_numbered is) ∙ and-true _ ∙ ap (λ k. eqb k n) (length_numbered is)
-fit_numbered many is = ap (λ b. leb (length (numbered is)) 64 && b) (keyless_numbered is) ∙ and-true _ ∙ ap (λ k. leb k 64) (length_numbered is)
-fit_numbered keyed is = rise_numbered is
+-- the keys of pairs ascend
+pub rise_keyed : (b : Branches) (ps : Bor (List Child)) → b ≡ branches.Keyed ps → Drafted b → true ≡ keys_rise (branches_of b)
+rise_keyed b ps e h = let d : Drafted (branches.Keyed ps) = subst Drafted e h in sym (ap (λ c. keys_rise (branches_of c)) e ∙ d.rises)
+
+-- without keys, one child at most
+pub rise_plain : (b : Branches) (is : Bor (List ℕ)) (n : ℕ) → n ≡ length (branches_of b) → b ≡ branches.Plain is → leb n 1 ≡ keys_rise (branches_of b)
+rise_plain b is n k e =
+    ap (λ i. leb i 1) (k ∙ ap (λ c. length (branches_of c)) e ∙ length_numbered is.now) ∙ sym (rise_numbered is.now) ∙ ap (λ c. keys_rise (branches_of c)) (sym e)

@@ -1,20 +1,16 @@
 -- Boolean literals, and what And and Or over two of them come to.
-use Rattle.std.proofs.Common.{◌≡◌, ℕ, ◌<◌, Bool, List, [], ◌∷◌, length, get_or, None, Option, refl, ap, ◌∙◌, arith}
+use Rattle.std.proofs.Common.{◌≡◌, ℕ, ◌<◌, Bool, List, [], ◌∷◌, length, get_or, None, refl, ap, ◌∙◌, arith}
 use Rattle.terms.specs.Shape.{Shape}
-use Rattle.terms.specs.Fold.{leaf_bool, as_bool, join, fold}
-use Rattle.terms.specs.Bank.{Child, NodeM, nothing, gather, shape_at}
+use Rattle.terms.specs.Fold.{leaf_bool, as_bool, fold}
+use Rattle.terms.specs.Bank.{Child, NodeM, gather, shape_at}
 use Rattle.model.specs.Build.{Sound}
-use Rattle.model.proofs.Rows.{bool_at, join_never}
-use Rattle.codes.specs.declared.kind.Kind.{Kind}
-use Rattle.codes.specs.declared.kind.Kind.TheVariants as kind
-use Rattle.codes.specs.Codes.{kind_code}
+use Rattle.model.proofs.Rows.{bool_at}
 use Rattle.leaves.specs.declared.literal.Literal.{Literal}
 use Rattle.leaves.specs.declared.literal.Literal.TheVariants as literal
 use Rattle.leaves.specs.declared.leaf.Leaf.TheVariants as leaf
 use Rattle.leaves.specs.declared.text_list.Span.{Span}
 use Rattle.pairs.specs.declared.link.Link.{Link}
 use Rattle.store.specs.declared.parts.Node.{Node}
-use Rattle.store.specs.declared.parts.Part.{Part}
 use Rattle.store.specs.Pools.{Pool}
 use Rattle.store.specs.Kept.{KeptLeaf, leaf_kept}
 use Rattle.store.specs.Tables.{model_of}
@@ -30,7 +26,7 @@ literal_at nodes links s i x h e sound =
     ∙ ap (λ (n : NodeM). leaf_bool n.leaf) (model_at nodes links s i x h e))
 
 -- a leaf that is no literal, and a literal that is no boolean
-pub no_literal : (s : Pool) (l : KeptLeaf) → ((x : Literal Span Part) → l ≡ leaf.Literal x → ⊥) → leaf_bool (leaf_kept s l) ≡ None
+pub no_literal : (s : Pool) (l : KeptLeaf) → ((x : Literal Span Span) → l ≡ leaf.Literal x → ⊥) → leaf_bool (leaf_kept s l) ≡ None
 no_literal s leaf.Nothing h = refl
 no_literal s (leaf.Literal x) h = absurd (h x refl)
 no_literal s (leaf.Code c) h = refl
@@ -40,40 +36,13 @@ no_literal s (leaf.Text t) h = refl
 no_literal s (leaf.Texts p) h = refl
 no_literal s (leaf.Pattern p) h = refl
 
-pub no_bool : (s : Pool) (l : Literal Span Part) → ((b : Bool) → l ≡ literal.Bool b → ⊥) → leaf_bool (leaf_kept s (leaf.Literal l)) ≡ None
+pub no_bool : (s : Pool) (l : Literal Span Span) → ((b : Bool) → l ≡ literal.Bool b → ⊥) → leaf_bool (leaf_kept s (leaf.Literal l)) ≡ None
 no_bool s (literal.Bool b) h = absurd (h b refl)
 no_bool s (literal.Long z) h = refl
 no_bool s (literal.String t) h = refl
 no_bool s (literal.Entity n t) h = refl
 
--- a kind that is neither And nor Or
-pub never : (k : Kind) (a b : Option Bool) → (k ≡ kind.And → ⊥) → (k ≡ kind.Or → ⊥) → join (kind_code k) a b ≡ None
-never kind.Lit a b p q = join_never 0 a b refl refl
-never kind.Var a b p q = join_never 1 a b refl refl
-never kind.Slot a b p q = join_never 2 a b refl refl
-never kind.Unknown a b p q = join_never 3 a b refl refl
-never kind.If a b p q = join_never 4 a b refl refl
-never kind.And a b p q = absurd (p refl)
-never kind.Or a b p q = absurd (q refl)
-never kind.UnaryApp a b p q = join_never 7 a b refl refl
-never kind.BinaryApp a b p q = join_never 8 a b refl refl
-never kind.ExtensionFunctionApp a b p q = join_never 9 a b refl refl
-never kind.GetAttr a b p q = join_never 10 a b refl refl
-never kind.HasAttr a b p q = join_never 11 a b refl refl
-never kind.ExtHasAttr a b p q = join_never 12 a b refl refl
-never kind.Like a b p q = join_never 13 a b refl refl
-never kind.Set a b p q = join_never 14 a b refl refl
-never kind.Record a b p q = join_never 15 a b refl refl
-never kind.Is a b p q = join_never 16 a b refl refl
-
--- two children, and any other number of them
-pub fold_two : (k : ℕ) (ss : List Shape) (cs : List Child) → length cs ≡ 2
-    → fold k (gather ss cs) ≡ join k (as_bool (get_or ss (get_or cs 0 ([], 0)).1 nothing)) (as_bool (get_or ss (get_or cs 1 ([], 0)).1 nothing))
-fold_two k ss [] e = absurd (omega arith)
-fold_two k ss (a ∷ []) e = absurd (omega arith)
-fold_two k ss (a ∷ b ∷ []) e = refl
-fold_two k ss (a ∷ b ∷ c ∷ cs) e = absurd (omega arith)
-
+-- another number of children than two
 pub fold_other : (k : ℕ) (ss : List Shape) (cs : List Child) → (length cs ≡ 2 → ⊥) → fold k (gather ss cs) ≡ None
 fold_other k ss [] e = refl
 fold_other k ss (a ∷ []) e = refl

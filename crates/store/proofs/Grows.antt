@@ -11,15 +11,16 @@ use Rattle.model.specs.Checks.{every}
 use Rattle.model.specs.Costs.{node_bytes}
 use Rattle.model.proofs.Builds.{links_more as links-push, bytes_more as bytes-push}
 use Rattle.codes.specs.Codes.{kind_code}
+use Rattle.leaves.specs.Values.{read}
 use Rattle.pairs.specs.declared.link.Link.{Link}
 use Rattle.pairs.specs.Links.{child_of}
 use Rattle.store.specs.declared.parts.Mark.{Mark}
 use Rattle.store.specs.declared.parts.Node.{Node}
-use Rattle.store.specs.Spans.{part, span_in}
+use Rattle.store.specs.Spans.{span_in}
 use Rattle.store.specs.Pools.{Pool, plus, used, upto}
 use Rattle.store.specs.Kept.{leaf_kept, leaf_in}
 use Rattle.store.specs.Tables.{place_of, node_of, key_in, mark_in, node_in, size_of, model_of, Held, Before, Marked}
-use Rattle.store.proofs.Pieces.{part_new, every_push, every_stays, map_same}
+use Rattle.store.proofs.Pieces.{read_new, every_push, every_stays, map_same}
 use Rattle.store.proofs.Lookups.{row_in, mark_is_in}
 use Rattle.store.proofs.Stays.{mark_parts, node_from, links_more, key_in_more, node_in_more, node_more}
 
@@ -58,14 +59,14 @@ module _ (s m : Pool) (k : Mark) where
       rw (e, f, g)
 
 -- the same tables
-pub stands : (nodes nodes' : List Node) (links links' : List Link) (s s' : Pool) (i : ℕ) (x : Node) → take i nodes' ≡ nodes → take x.links.first links' ≡ links
+pub stands : (nodes nodes' : List Node) (links links' : List Link) (s s' : Pool) (i : ℕ) (x : Node) → take i nodes' ≡ nodes → take x.links.start links' ≡ links
     → upto s' x.mark ≡ s
     → Held nodes links s → every (span_in (length s.bytes)) s.spans ≡ true
     → Before nodes' links' s' i x
 stands nodes nodes' links links' s s' i x a b c held inside =
     record {
       held =
-          subst (λ n. Held n (take x.links.first links') (upto s' x.mark)) (sym a)
+          subst (λ n. Held n (take x.links.start links') (upto s' x.mark)) (sym a)
           (subst (λ l. Held nodes l (upto s' x.mark)) (sym b)
           (subst (λ p. Held nodes links p) (sym c) held));
       inside = subst (λ (p : Pool). every (span_in (length p.bytes)) p.spans ≡ true) (sym c) inside;
@@ -89,17 +90,13 @@ module _ (nodes : List Node) (links : List Link) (s : Pool) (ls : List Link) (m 
         (rw (length-map links (child_of s.bytes)) h))
         nodes held.0
 
-    pub model_more : model_of nodes (links ++ ls) (plus s m) ≡ model_of nodes links s
-    unfolding model_of
-    model_more = rw links_now nodes_old
-
 module _ (nodes : List Node) (links : List Link) (s : Pool) (ls : List Link) (m : Pool) (x : Node)
     (held : Held nodes links s)
     (lists : every (span_in (length s.bytes)) s.spans ≡ true)
     (keys : every (key_in (plus s m)) ls ≡ true)
     (inside : leaf_in (plus s m) x.leaf ≡ true)
-    (first : x.links.first ≡ length links)
-    (many : x.links.count ≡ length ls)
+    (first : x.links.start ≡ length links)
+    (many : x.links.len ≡ length ls)
     (mark : mark_in (plus s m) x.mark ≡ true)
   where
     -- the node that is new
@@ -112,9 +109,9 @@ module _ (nodes : List Node) (links : List Link) (s : Pool) (ls : List Link) (m 
           place = place_of x.place;
         }
 
-    children_new : part (map (child_of s.bytes) links ++ map (child_of (plus s m).bytes) ls) x.links ≡ map (child_of (plus s m).bytes) ls
+    children_new : read (map (child_of s.bytes) links ++ map (child_of (plus s m).bytes) ls) x.links ≡ map (child_of (plus s m).bytes) ls
     children_new =
-        part_new (map (child_of s.bytes) links) (map (child_of (plus s m).bytes) ls) x.links.first x.links.count
+        read_new (map (child_of s.bytes) links) (map (child_of (plus s m).bytes) ls) x.links.start x.links.len
         (first ∙ sym (length-map links (child_of s.bytes)))
         (many ∙ sym (length-map ls (child_of (plus s m).bytes)))
 
@@ -149,15 +146,15 @@ module _ (nodes : List Node) (links : List Link) (s : Pool) (ls : List Link) (m 
         let w = was i y l g in
         let f = row_in nodes links s i y l g held in
         let k = mark_parts s y.mark (mark_is_in nodes links s i y l g held) in
-        stands (take i nodes) _ (take y.links.first links) _ (upto s y.mark) _ i y
-        (take-append-le i nodes (x ∷ []) (omega arith)) (take-append-le y.links.first links ls (omega arith)) (upto_more s m y.mark k.0 k.1 k.2)
+        stands (take i nodes) _ (take y.links.start links) _ (upto s y.mark) _ i y
+        (take-append-le i nodes (x ∷ []) (omega arith)) (take-append-le y.links.start links ls (omega arith)) (upto_more s m y.mark k.0 k.1 k.2)
         w.held w.inside
     marked_by was a b c i y h e (no l) =
         let n : length nodes ≡ i = omega (arith, length_push nodes x) in
         let z : y ≡ x = e ∙ get_or_push nodes x y i n in
         subst (Before (nodes ++ x ∷ []) (links ++ ls) (plus s m) i) (sym z)
         (stands nodes _ links _ s _ i x
-        (take_at nodes (x ∷ []) i n) (take_at links ls x.links.first (sym first)) (upto_all s m x.mark a b c)
+        (take_at nodes (x ∷ []) i n) (take_at links ls x.links.start (sym first)) (upto_all s m x.mark a b c)
         held lists)
 
     pub marked_push : Marked nodes links s → x.mark.bytes ≡ length s.bytes → x.mark.spans ≡ length s.spans → x.mark.elems ≡ length s.elems

@@ -1,7 +1,6 @@
 pub mod Pieces
 pub mod Turns
 pub mod Readings
-pub mod Scans
 pub mod Grown
 pub mod Leafs
 pub mod Truths
@@ -12,5 +11,6 @@ pub mod Grows
 pub mod Places
 pub mod Calls
 pub mod Folds
+pub mod Stored
 pub mod Entries
 pub mod Asked

@@ -1,26 +1,19 @@
 -- Parts of lists that grow, and tests of all members.
-use Rattle.std.proofs.Common.{◌≡◌, ℕ, ◌+◌, ◌≤◌, Bool, true, List, [], ◌∷◌, ◌++◌, map, length, take, drop, Some, None, Option, sym, refl, ap, ◌∙◌, arith, length-drop}
-use Rattle.std.proofs.lemmas.List.{drop-append-le, take-append-le, drop_at, take_all}
+use Rattle.std.proofs.Common.{◌≡◌, ℕ, Bool, true, List, [], ◌∷◌, ◌++◌, map, length, take, drop, Some, None, Option, sym, refl, ap, ◌∙◌, arith}
+use Rattle.std.proofs.lemmas.List.{drop_at, take_all}
+use Rattle.std.proofs.lemmas.List.Folds.{list_all-append}
 use Rattle.std.proofs.lemmas.Bool.{and_parts, and_from}
 use Rattle.std.specs.Option.{option_map}
 use Rattle.model.specs.Checks.{every, any}
 
 module _ {X : Type 0} where
-  -- n members from the place i on are the same in a list with more
-  pub part_more : (xs more : List X) (i n : ℕ) → i + n ≤ length xs → take n (drop i (xs ++ more)) ≡ take n (drop i xs)
-  part_more xs more i n h =
-      let a : i ≤ length xs = omega arith in
-      let b : n ≤ length (drop i xs) = simp length-drop (omega arith) in
-      rw (drop-append-le, take-append-le)
-
   -- those that were added last
-  pub part_new : (xs new : List X) (i n : ℕ) → i ≡ length xs → n ≡ length new → take n (drop i (xs ++ new)) ≡ new
-  part_new xs new i n e k = ap (take n) (drop_at xs new i (sym e)) ∙ take_all n new (omega arith)
+  pub read_new : (xs new : List X) (i n : ℕ) → i ≡ length xs → n ≡ length new → take n (drop i (xs ++ new)) ≡ new
+  read_new xs new i n e k = ap (take n) (drop_at xs new i (sym e)) ∙ take_all n new (omega arith)
 
   -- a test that all members of two lists pass
   pub every_push : (p : X → Bool) (xs ys : List X) → every p xs ≡ true → every p ys ≡ true → every p (xs ++ ys) ≡ true
-  every_push p [] ys a b = b
-  every_push p (x ∷ xs) ys a b = let h = and_parts (p x) (every p xs) a in and_from (p x) (every p (xs ++ ys)) h.0 (every_push p xs ys h.1 b)
+  every_push p xs ys a b = list_all-append p xs ys ∙ and_from (every p xs) (every p ys) a b
 
   -- a test that follows from another
   pub every_stays : (p q : X → Bool) → ((x : X) → p x ≡ true → q x ≡ true) → (xs : List X) → every p xs ≡ true → every q xs ≡ true

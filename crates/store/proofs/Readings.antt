@@ -4,8 +4,6 @@ use Rattle.std.proofs.lemmas.List.{take_all, take-map, drop-map}
 use Rattle.terms.specs.Terms.{Text}
 use Rattle.leaves.specs.declared.text_list.Span.{Span}
 use Rattle.leaves.specs.Values.{read}
-use Rattle.store.specs.declared.parts.Part.{Part}
-use Rattle.store.specs.Spans.{part}
 use Rattle.store.specs.Pools.{Pool, listed}
 use Rattle.store.specs.Kept.{named, texts_kept, name_kept}
 
@@ -21,22 +19,22 @@ some_named f g (x ∷ ss) d base q h e =
     let t : take (length (x ∷ ss) - 1) ss ≡ ss = take_all (length (x ∷ ss) - 1) ss (omega arith) in
     ap (λ (us : List Span). record { base = base; namespaces = map f us }) t ∙ ap (λ (b : Text). record { base = b; namespaces = map f ss }) e ∙ ap (λ (k : Span → Text). record { base = g x; namespaces = map k ss }) q
 
-module _ (s : Pool) (p : Part) (ss : List Span) (e : ss ≡ part s.spans p) where
-  -- the texts of a part are those of its spans
-  texts_part : map (read s.bytes) ss ≡ texts_kept s p
+module _ (s : Pool) (p : Span) (ss : List Span) (e : ss ≡ read s.spans p) where
+  -- the texts of a list are those of its spans
+  texts_listed : map (read s.bytes) ss ≡ texts_kept s p
   unfolding listed
-  texts_part =
+  texts_listed =
       ap (map (read s.bytes)) e
-      ∙ sym (ap (take p.count) (drop-map (read s.bytes) p.first s.spans) ∙ take-map (read s.bytes) p.count (drop p.first s.spans))
+      ∙ sym (ap (take p.len) (drop-map (read s.bytes) p.start s.spans) ∙ take-map (read s.bytes) p.len (drop p.start s.spans))
 
   -- with what the code has for the bytes
   pub texts_read : (bs : List ℕ) → bs ≡ s.bytes → map (read bs) ss ≡ texts_kept s p
-  texts_read bs b = ap (λ (t : List ℕ). map (read t) ss) b ∙ texts_part
+  texts_read bs b = ap (λ (t : List ℕ). map (read t) ss) b ∙ texts_listed
 
-  -- an empty part reads as a name of empty texts
+  -- an empty list reads as a name of empty texts
   pub name_none : length ss ≤ 0 → record { base = []; namespaces = [] } ≡ name_kept s p
-  name_none h = none_named (read s.bytes) ss h ∙ ap named texts_part
+  name_none h = none_named (read s.bytes) ss h ∙ ap named texts_listed
 
   -- and any other as its first text and the rest
   pub name_read : (bs : List ℕ) (d : Span) (base : Text) → bs ≡ s.bytes → 0 < length ss → base ≡ read s.bytes (get_or ss 0 d) → record { base = base; namespaces = map (read bs) (take (length ss - 1) (drop 1 ss)) } ≡ name_kept s p
-  name_read bs d base b h f = some_named (read bs) (read s.bytes) ss d base (ap read b) h f ∙ ap named texts_part
+  name_read bs d base b h f = some_named (read bs) (read s.bytes) ss d base (ap read b) h f ∙ ap named texts_listed

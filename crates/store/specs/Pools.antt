@@ -1,5 +1,5 @@
 -- What a text table holds.
-use Rattle.std.specs.Prelude.{◌≡◌, ℕ, ◌+◌, ◌*◌, List, ◌++◌, map, length, take, vec_items}
+use Rattle.std.specs.Prelude.{◌≡◌, ℕ, ◌+◌, ◌*◌, ◌≤◌, List, ◌++◌, map, length, take}
 use Rattle.terms.specs.Terms.{Text}
 use Rattle.leaves.specs.declared.text_list.Span.{Span}
 use Rattle.leaves.specs.declared.pattern.PatternElem.{PatternElem}
@@ -15,7 +15,7 @@ pub record Pool : Type 0 where
 
 -- the lists of a table
 abbrev pub pool : TextTable → Pool
-pool t = record { bytes = vec_items t.bytes; spans = vec_items t.spans; elems = vec_items t.elems }
+pool t = record { bytes = t.bytes; spans = t.spans; elems = t.elems }
 
 -- a text of a list takes two bytes more than it has, and an element of a pattern four
 abbrev pub used : Pool → ℕ
@@ -32,6 +32,15 @@ plus s m = record { bytes = s.bytes ++ m.bytes; spans = s.spans ++ m.spans; elem
 -- s' is s with more
 abbrev pub Grows : Pool → Pool → Type 0
 Grows s s' = (m : Pool) × (s' ≡ plus s m)
+
+-- room for n bytes more
+abbrev pub Room : Pool → ℕ → Type 0
+Room s n = used s + n ≤ 16384
+
+-- t is s with n bytes more
+pub record Takes (s t : Pool) (n : ℕ) : Type 0 where
+  pub grows : Grows s t
+  pub bytes : used t ≡ used s + n
 
 -- what was in use at a mark
 abbrev pub upto : Pool → Mark → Pool

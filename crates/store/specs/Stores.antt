@@ -1,5 +1,5 @@
 -- The nodes of a store, and what its calls answer.
-use Rattle.std.specs.Prelude.{◌≡◌, ℕ, ◌+◌, Bool, true, ◌&&◌, List, [], ◌∷◌, ◌++◌, map, length, None, vec_items, Option, Result, nat_le, nat_lt}
+use Rattle.std.specs.Prelude.{◌≡◌, ℕ, ◌+◌, Bool, true, ◌&&◌, List, [], ◌∷◌, ◌++◌, map, length, None, Option, Result, nat_le, nat_lt}
 use Rattle.terms.specs.Bank.{Child, NodeM, Bank}
 use Rattle.terms.specs.declared.refusal.Refusal.{Refusal}
 use Rattle.terms.specs.declared.refusal.Refusal.TheVariants as refusal
@@ -13,20 +13,26 @@ use Rattle.terms.specs.Terms.{Leaf}
 use Rattle.terms.specs.Kinds.{kind}
 use Rattle.checks.specs.Checked.{cost_unless}
 use Rattle.leaves.specs.Values.{GivenLeaf, leaf_of}
+use Rattle.store.specs.declared.call.Call.{Call}
 use Rattle.store.specs.declared.location.Location.{Location}
 use Rattle.store.specs.declared.store.Store.{Store}
 use Rattle.pairs.specs.declared.link.Link.{Link}
 use Rattle.pairs.specs.Links.{child_of}
+use Rattle.store.specs.Branches.{branches_of}
 use Rattle.store.specs.Pools.{Pool, pool}
 use Rattle.store.specs.Tables.{place_of, key_in, model_of}
 
 -- the nodes that a store holds
 abbrev pub model : Store → Bank
-model b = model_of (vec_items b.nodes.rows) (vec_items b.links.rows) (pool b.texts)
+model b = model_of b.nodes b.links (pool b.texts)
 
 -- the node that a call is for
 abbrev pub called : Kind → GivenLeaf → List Child → Option Location → NodeM
 called k l cs at = of_kind (kind_code k) (leaf_of l) cs (place_of at)
+
+-- the same of a call for a node
+abbrev pub asked : Call → NodeM
+asked c = called c.kind c.leaf (branches_of c.children) c.at
 
 -- children as kind k has them
 abbrev pub children_fit : ℕ → List Child → Bool

@@ -6,12 +6,13 @@ use Rattle.terms.specs.Bank.{Loc, Child, NodeM, Bank, shapes}
 use Rattle.model.specs.Checks.{every}
 use Rattle.model.specs.Costs.{links_used, bytes_used}
 use Rattle.codes.specs.Codes.{kind_code}
+use Rattle.leaves.specs.Values.{read}
 use Rattle.pairs.specs.declared.link.Link.{Link}
 use Rattle.pairs.specs.Links.{children_of, inside}
 use Rattle.store.specs.declared.location.Location.{Location}
 use Rattle.store.specs.declared.parts.Mark.{Mark}
 use Rattle.store.specs.declared.parts.Node.{Node}
-use Rattle.store.specs.Spans.{part, span_in, part_in}
+use Rattle.store.specs.Spans.{span_in}
 use Rattle.store.specs.Pools.{Pool, used, upto}
 use Rattle.store.specs.Kept.{leaf_kept, leaf_in}
 
@@ -29,7 +30,7 @@ node_of cs s n =
     record {
       kind = kind_code n.kind;
       leaf = leaf_kept s n.leaf;
-      children = part cs n.links;
+      children = read cs n.links;
       place = place_of n.place;
     }
 
@@ -49,7 +50,7 @@ mark_in s k = nat_le k.bytes (length s.bytes) && (nat_le k.spans (length s.spans
 
 -- a row within its tables
 abbrev pub node_in : ℕ → Pool → Node → Bool
-node_in links s n = part_in links n.links && (leaf_in s n.leaf && mark_in s n.mark)
+node_in links s n = span_in links n.links && (leaf_in s n.leaf && mark_in s n.mark)
 
 -- the size that a row keeps
 abbrev pub size_of : Node → ℕ
@@ -66,7 +67,7 @@ Held nodes links s =
 
 -- what stood before the node x was put as node i
 pub record Before (nodes : List Node) (links : List Link) (s : Pool) (i : ℕ) (x : Node) : Type 0 where
-  pub held : Held (take i nodes) (take x.links.first links) (upto s x.mark)
+  pub held : Held (take i nodes) (take x.links.start links) (upto s x.mark)
   pub inside : every (span_in (length (upto s x.mark).bytes)) (upto s x.mark).spans ≡ true
 
 -- every row marks the tables as they were before it

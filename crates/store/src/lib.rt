@@ -2,11 +2,11 @@
 #![tactic(auto)]
 
 pub mod branches;
-pub mod links;
+mod call;
 pub mod location;
-pub mod nodes;
 pub mod parts;
 pub mod store;
+pub mod table;
 pub mod texts;
 pub mod view;
 
@@ -16,34 +16,29 @@ mod tests {
     use codes::kind::Kind;
     use leaves::leaf::{Leaf, boolean, nothing};
     use leaves::literal::Unknown;
+    use leaves::text::Text;
     use pairs::pairs::Pairs;
     use terms::refusal::Refusal;
 
     // Adds a blank without a type, and says its number, or a number that no node has.
     fn blank(store: &mut Store, name: &[u8]) -> u32 {
         let unknown = Leaf::Unknown(Unknown {
-            name,
+            name: Text(name),
             type_annotation: None,
         });
-        match store.build(Kind::Unknown, unknown, &[], None) {
-            Ok(number) => number,
-            Err(_) => u32::MAX,
-        }
+        store
+            .build(Kind::Unknown, unknown, &[], None)
+            .unwrap_or(u32::MAX)
     }
 
     // Whether the node is a boolean literal.
     fn is_literal(store: &Store, number: u32) -> bool {
-        match store.view(number) {
-            Ok(view) => matches!(view.kind, Kind::Lit),
-            Err(_) => false,
-        }
+        matches!(store.view(number), Ok(view) if matches!(view.kind, Kind::Lit))
     }
 
     #[test]
     fn paid_and_tested(rt: HostRuntime) {
-        let Ok(mut store) = Store::new(rt.alloc()) else {
-            panic!(rt; "no memory");
-        };
+        let mut store = Store::new(rt.alloc()).expect(&rt, "no memory");
         let paid = blank(&mut store, b"paid");
         let tested = blank(&mut store, b"tested");
         let both = store.build(Kind::And, nothing(), &[paid, tested], None);
@@ -56,9 +51,7 @@ mod tests {
 
     #[test]
     fn literals_fold(rt: HostRuntime) {
-        let Ok(mut store) = Store::new(rt.alloc()) else {
-            panic!(rt; "no memory");
-        };
+        let mut store = Store::new(rt.alloc()).expect(&rt, "no memory");
         let yes = store.build(Kind::Lit, boolean(true), &[], None);
         assert!(rt; matches!(yes, Ok(0)));
         let both = store.build(Kind::And, nothing(), &[0, 0], None);
@@ -71,12 +64,8 @@ mod tests {
 
     #[test]
     fn record_of_a_pair(rt: HostRuntime) {
-        let Ok(mut store) = Store::new(rt.alloc()) else {
-            panic!(rt; "no memory");
-        };
-        let Ok(mut pairs) = Pairs::new(rt.alloc()) else {
-            panic!(rt; "no memory");
-        };
+        let mut store = Store::new(rt.alloc()).expect(&rt, "no memory");
+        let mut pairs = Pairs::new(rt.alloc()).expect(&rt, "no memory");
         let paid = blank(&mut store, b"paid");
         assert!(rt; pairs.put(b"k", paid).is_ok());
         assert!(rt; matches!(store.record(&pairs, None), Ok(1)));

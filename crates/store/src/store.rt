@@ -3,8 +3,7 @@ ghost use Rattle.model.specs.Build.{Sound};
 ghost use Rattle.store.specs.Pools.{pool};
 ghost use Rattle.store.specs.Tables.{model_of, Held, Marked};
 
-use crate::links::LinkTable;
-use crate::nodes::NodeTable;
+use crate::table::{LinkTable, NodeTable};
 use crate::texts::TextTable;
 
 mod asks;
@@ -13,12 +12,12 @@ mod places;
 mod reads;
 
 /// Nodes with their links and texts. A store is no bank: it can be cut back, so it promises nothing over time.
-#[derive(Drop)]
+#[derive(Debug, Drop)]
 pub struct Store {
     nodes: NodeTable,
     links: LinkTable,
     texts: TextTable,
-    ghost held: { Held nodes.rows.items links.rows.items (pool texts) },
-    ghost marked: { ∥ Marked nodes.rows.items links.rows.items (pool texts) ∥₁ },
-    ghost sound: { ∥ Sound (model_of nodes.rows.items links.rows.items (pool texts)) ∥₁ },
+    ghost held: { Held nodes links (pool texts) },
+    ghost marked: { ∥ Marked nodes links (pool texts) ∥₁ },
+    ghost sound: { ∥ Sound (model_of nodes links (pool texts)) ∥₁ },
 }

@@ -1,9 +1,10 @@
 // The text table: the bytes of all texts, the spans of the texts of lists, and the elements of patterns. A text of a list takes two bytes
 // more than it has, and an element four.
-ghost use Rattle.std.specs.Prelude.{◌≡◌, ◌+◌, ◌*◌, ◌≤◌, true, length, vec_len, vec_capacity};
+ghost use Rattle.std.specs.Prelude.{◌≡◌, ◌+◌, ◌*◌, ◌≤◌, true, length};
 ghost use Rattle.model.specs.Checks.{every};
 ghost use Rattle.store.specs.Spans.{span_in};
 
+use crate::table::Table;
 use leaves::pattern::PatternElem;
 use leaves::text_list::Span;
 
@@ -13,14 +14,11 @@ mod stores;
 
 pub const MOST: usize = 16384;
 
-#[derive(Drop)]
+#[derive(Debug, Drop)]
 pub struct TextTable {
-    bytes: Vec<u8>,
-    spans: Vec<Span>,
-    elems: Vec<PatternElem>,
-    ghost bytes_room: { 16384 ≤ vec_capacity bytes },
-    ghost spans_room: { 8192 ≤ vec_capacity spans },
-    ghost elems_room: { 4096 ≤ vec_capacity elems },
-    ghost within: { vec_len bytes + (2 * vec_len spans + 4 * vec_len elems) ≤ 16384 },
-    ghost inside: { every (span_in (length bytes.items)) spans.items ≡ true },
+    bytes: Table<u8, 16384>,
+    spans: Table<Span, 8192>,
+    elems: Table<PatternElem, 4096>,
+    ghost within: { length bytes + (2 * length spans + 4 * length elems) ≤ 16384 },
+    ghost inside: { every (span_in (length bytes)) spans ≡ true },
 }

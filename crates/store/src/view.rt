@@ -4,7 +4,7 @@ use codes::kind::Kind;
 use leaves::leaf::Given;
 
 /// A node's kind, its leaf, how many children it has, how many subexpressions its tree counts, and its location.
-#[derive(Clone, Copy)]
+#[derive(Clone, Copy, Debug, PartialEq, Eq)]
 pub struct View<'a> {
     pub kind: Kind,
     pub leaf: Given<'a>,

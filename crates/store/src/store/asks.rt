@@ -1,5 +1,5 @@
 // What is asked before a node is built.
-ghost use Rattle.std.specs.Prelude.{◌≡◌, ◌+◌, ◌≤◌, true, [], length};
+ghost use Rattle.std.specs.Prelude.{◌≡◌, ◌+◌, ◌≤◌, true, [], length, Some};
 ghost use Rattle.terms.specs.Shape.{sizes};
 ghost use Rattle.terms.specs.Fold.{as_bool, join, fold};
 ghost use Rattle.terms.specs.Bank.{gather, shapes, shape_at};
@@ -9,7 +9,7 @@ ghost use Rattle.store.specs.Branches.{branches_of};
 ghost use Rattle.store.specs.Stores.{model, room_for};
 
 use crate::branches::Branches;
-use crate::nodes;
+use crate::call::Call;
 use crate::store::Store;
 use codes::kind::Kind;
 use leaves::leaf::Leaf;
@@ -17,10 +17,11 @@ use leaves::literal::Literal;
 
 impl Store {
     /// How many nodes there are.
+    #[tactic(auto, using(crate::proofs::Lookups::length_model))]
     pub fn count(&self) -> u32
         ensures { result ≡ length (model self.now) }
     {
-        self.nodes.used()
+        self.nodes.len()
     }
 
     // Whether each of these is the number of a node.
@@ -28,12 +29,7 @@ impl Store {
         ensures { result ≡ every (there (length (model self.now))) (branches_of children.entry) }
     {
         let count = self.count();
-        for place in 0..children.len() {
-            if children.at(place).1 >= count {
-                return false;
-            }
-        }
-        true
+        children.into_iter().all(|(_, child)| child < count)
     }
 
     // The size of a tree over these children.
@@ -42,18 +38,20 @@ impl Store {
         requires few { length (branches_of children) ≤ 64 }
         ensures { result ≡ 1 + sizes (gather (shapes (model self.now)) (branches_of children.entry)) }
     {
+        // No `sum`: a closure would not know that the child is in the table.
         let mut size: u64 = 1;
-        for place in 0..children.len() {
-            size += self.nodes.get(children.at(place).1).size as u64;
+        for (_, child) in children {
+            size += u64::from(self.nodes.get(child).size);
         }
         size
     }
 
     // Whether there is room for a node with a leaf of so many bytes and these children.
+    #[tactic(auto, using(crate::proofs::Lookups::length_model))]
     pub(crate) fn has_room(&self, bytes: usize, children: Branches<'_>) -> bool
         ensures { result ≡ room_for (model self.now) bytes (branches_of children.entry) }
     {
-        self.count() < nodes::MOST
+        self.nodes.has_room(1)
             && self.links.has_room(children.len())
             && self.texts.has_room(bytes, children.key_bytes())
     }
@@ -72,30 +70,26 @@ impl Store {
     }
 
     // What And or Or over two boolean literals comes to.
-    pub(crate) fn fold(&self, kind: Kind, children: Branches<'_>) -> Option<bool>
-        ensures { result ≡ fold (kind_code kind) (gather (shapes (model self.now)) (branches_of children.entry)) }
+    #[tactic(auto, using(crate::proofs::Folds::fold_other))]
+    pub(crate) fn fold(&self, call: Call<'_>) -> Option<bool>
+        ensures { result ≡ fold (kind_code call.entry.kind) (gather (shapes (model self.now)) (branches_of call.entry.children)) }
     {
-        if children.len() != 2 {
+        if call.children.len() != 2 {
             return None;
         }
-        join(
-            kind,
-            self.bool_at(children.at(0).1),
-            self.bool_at(children.at(1).1),
-        )
+        let (_, left) = call.children.at(0);
+        let (_, right) = call.children.at(1);
+        join(call.kind, self.bool_at(left)?, self.bool_at(right)?)
     }
 }
 
 // Two booleans under And or Or.
-fn join(kind: Kind, left: Option<bool>, right: Option<bool>) -> Option<bool>
-    ensures { result ≡ join (kind_code kind) left right }
+fn join(kind: Kind, left: bool, right: bool) -> Option<bool>
+    ensures { result ≡ join (kind_code kind) (Some left) (Some right) }
 {
-    match (left, right) {
-        (Some(a), Some(b)) => match kind {
-            Kind::And => Some(a && b),
-            Kind::Or => Some(a || b),
-            _ => None,
-        },
+    match kind {
+        Kind::And => Some(left && right),
+        Kind::Or => Some(left || right),
         _ => None,
     }
 }

@@ -17,7 +17,7 @@ impl Store {
         Ok(View {
             kind: node.kind,
             leaf: self.texts.leaf(node.leaf),
-            degree: node.links.count,
+            degree: node.links.len,
             size: node.size,
             location: node.place,
         })
@@ -29,10 +29,10 @@ impl Store {
     {
         check_node(number, self.count())?;
         let node = self.nodes.get(number);
-        if place >= node.links.count {
+        if place >= node.links.len {
             return Ok(None);
         }
-        let link = self.links.get(node.links.first + place);
-        Ok(Some((self.texts.text(link.key), link.child)))
+        let link = self.links.get(node.links.start + place);
+        Ok(Some((self.texts.text(link.key).0, link.child)))
     }
 }

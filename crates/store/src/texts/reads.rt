@@ -1,59 +1,62 @@
-// How what is kept is read. A span or a part that lies outside of the table reads as far as there is any of it.
+// How what is kept is read. A span that lies outside of its table reads as far as there is any of it.
 ghost use Rattle.std.specs.Prelude.{◌≡◌};
 ghost use Rattle.std.specs.Option.{option_map};
+ghost use Rattle.leaves.specs.Texts.{text_of};
 ghost use Rattle.leaves.specs.Values.{read, texts_of, name_of, pattern_of, type_by, type_of, literal_by, literal_of, unknown_by, unknown_of, leaf_of};
 ghost use Rattle.store.specs.Pools.{pool};
 ghost use Rattle.store.specs.Kept.{texts_kept, name_kept, pattern_kept, leaf_kept};
 
-use crate::parts::{Kept, Part};
+use crate::parts::Kept;
 use crate::texts::TextTable;
 use leaves::leaf::{Given, Leaf};
 use leaves::literal::{Literal, Unknown};
 use leaves::name::Name;
 use leaves::pattern::PatternElem;
+use leaves::text::Text;
 use leaves::text_list::{Span, TextList};
 use terms::types::Type;
 
 impl TextTable {
     // The bytes of a text.
-    pub(crate) fn text(&self, span: Span) -> &[u8]
-        ensures { result.now ≡ read (pool self.now).bytes span }
+    pub(crate) fn text(&self, span: Span) -> Text<'_>
+        ensures { text_of result ≡ read (pool self.now).bytes span }
     {
-        span.of(&self.bytes)
+        Text(span.of(self.bytes.as_slice()))
     }
 
     // The texts of a list.
-    pub(crate) fn list(&self, part: Part) -> TextList<'_>
-        ensures { texts_of result ≡ texts_kept (pool self.now) part }
+    #[tactic(auto, using(crate::proofs::Readings::texts_read))]
+    pub(crate) fn list(&self, span: Span) -> TextList<'_>
+        ensures { texts_of result ≡ texts_kept (pool self.now) span }
     {
-        TextList::Kept(&self.bytes, part.of(&self.spans))
+        TextList::Kept(self.bytes.as_slice(), span.of(self.spans.as_slice()))
     }
 
     // A name, whose base is the first of its texts.
-    pub(crate) fn name(&self, part: Part) -> Name<'_>
-        ensures { name_of result ≡ name_kept (pool self.now) part }
+    pub(crate) fn name(&self, span: Span) -> Name<'_>
+        ensures { name_of result ≡ name_kept (pool self.now) span }
     {
-        match part.of(&self.spans) {
+        match span.of(self.spans.as_slice()) {
             [base, namespaces @ ..] => Name {
                 base: self.text(*base),
-                namespaces: TextList::Kept(&self.bytes, namespaces),
+                namespaces: TextList::Kept(self.bytes.as_slice(), namespaces),
             },
             [] => Name {
-                base: &[],
+                base: Text(&[]),
                 namespaces: TextList::Given(&[]),
             },
         }
     }
 
     // The elements of a pattern.
-    pub(crate) fn pattern(&self, part: Part) -> &[PatternElem]
-        ensures { pattern_of result.now ≡ pattern_kept (pool self.now) part }
+    pub(crate) fn pattern(&self, span: Span) -> &[PatternElem]
+        ensures { pattern_of result.now ≡ pattern_kept (pool self.now) span }
     {
-        part.of(&self.elems)
+        span.of(self.elems.as_slice())
     }
 
     // A literal with its texts.
-    fn literal(&self, kept: Literal<Span, Part>) -> Literal<&[u8], Name<'_>>
+    fn literal(&self, kept: Literal<Span, Span>) -> Literal<Text<'_>, Name<'_>>
         ensures { literal_of result ≡ literal_by (read (pool self.now).bytes) (name_kept (pool self.now)) kept }
     {
         match kept {
@@ -64,8 +67,8 @@ impl TextTable {
         }
     }
 
-    // A type with its name, if it has one.
-    fn type_of(&self, kept: Type<Part>) -> Type<Name<'_>>
+    // A type with its name, if it has one. Arm by arm: a `map` would have to require that its closure may be called.
+    fn type_of(&self, kept: Type<Span>) -> Type<Name<'_>>
         ensures { type_of result ≡ type_by (name_kept (pool self.now)) kept }
     {
         match kept {
@@ -80,17 +83,14 @@ impl TextTable {
     }
 
     // The type, if any, of an unknown.
-    fn annotation(&self, kept: Option<Type<Part>>) -> Option<Type<Name<'_>>>
+    fn annotation(&self, kept: Option<Type<Span>>) -> Option<Type<Name<'_>>>
         ensures { option_map type_of result ≡ option_map (type_by (name_kept (pool self.now))) kept }
     {
-        match kept {
-            Some(kept) => Some(self.type_of(kept)),
-            None => None,
-        }
+        kept.map(|kept| self.type_of(kept))
     }
 
     // An unknown with its name and its type.
-    fn unknown(&self, kept: Unknown<Span, Part>) -> Unknown<&[u8], Name<'_>>
+    fn unknown(&self, kept: Unknown<Span, Span>) -> Unknown<Text<'_>, Name<'_>>
         ensures { unknown_of result ≡ unknown_by (read (pool self.now).bytes) (name_kept (pool self.now)) kept }
     {
         Unknown {

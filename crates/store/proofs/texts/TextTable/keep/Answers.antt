@@ -1,11 +1,11 @@
-use Rattle.std.proofs.Common.{sym, refl, ap, arith}
+use Rattle.std.proofs.Common.{ap}
 use Rattle.leaves.specs.Values.{leaf_of}
 use Rattle.model.specs.Costs.{leaf_bytes}
-use Rattle.store.proofs.Grown.{grows_none}
+use Rattle.store.proofs.Grown.{takes_none}
 use Rattle.store.proofs.texts.TextTable.keep.Goals as goal
 
-pub returns-in-Nothing : goal.returns-in-Nothing
-returns-in-Nothing c = let i = ap leaf_of c.in-Nothing.is in record { grows = grows_none _; used = omega (arith, ap leaf_bytes i); leaf = sym i; inside = refl }
+pub returns-in-Nothing-clause-takes : goal.returns-in-Nothing-clause-takes
+returns-in-Nothing-clause-takes c = takes_none _ _ (ap (λ x. leaf_bytes (leaf_of x)) c.in-Nothing.is)
 
-pub returns-in-Code : goal.returns-in-Code
-returns-in-Code c = let i = ap leaf_of c.in-Code.is in record { grows = grows_none _; used = omega (arith, ap leaf_bytes i); leaf = sym i; inside = refl }
+pub returns-in-Code-clause-takes : goal.returns-in-Code-clause-takes
+returns-in-Code-clause-takes c = takes_none _ _ (ap (λ x. leaf_bytes (leaf_of x)) c.in-Code.is)

@@ -1,20 +1,16 @@
-use Rattle.std.proofs.Common.{sym, refl, ap, arith, rules}
+use Rattle.std.proofs.Common.{ap}
 use Rattle.std.proofs.lemmas.Bool.{and_from}
 use Rattle.leaves.specs.Values.{literal_of}
 use Rattle.model.specs.Costs.{literal_bytes}
 use Rattle.store.specs.Pools.{pool}
-use Rattle.store.proofs.Grown.{grows_none, grows_on, name_same, name_in_same}
+use Rattle.store.proofs.Grown.{takes_none, takes_on, name_same, name_in_same}
 use Rattle.store.proofs.texts.TextTable.keep_literal.Goals as goal
 
-pub returns-in-Bool : goal.returns-in-Bool
-returns-in-Bool c =
-    let i = ap literal_of c.in-Bool.is in
-    record { grows = grows_none _; used = omega (arith, ap literal_bytes i); literal = sym i; inside = refl }
+pub returns-in-Bool-clause-takes : goal.returns-in-Bool-clause-takes
+returns-in-Bool-clause-takes c = takes_none _ _ (ap (λ x. literal_bytes (literal_of x)) c.in-Bool.is)
 
-pub returns-in-Long : goal.returns-in-Long
-returns-in-Long c =
-    let i = ap literal_of c.in-Long.is in
-    record { grows = grows_none _; used = omega (arith, ap literal_bytes i); literal = search rules; inside = refl }
+pub returns-in-Long-clause-takes : goal.returns-in-Long-clause-takes
+returns-in-Long-clause-takes c = takes_none _ _ (ap (λ x. literal_bytes (literal_of x)) c.in-Long.is)
 
 pub returns-in-Entity : goal.returns-in-Entity
 returns-in-Entity c =
@@ -28,8 +24,7 @@ returns-in-Entity c =
     let n = c.keep_name-name.ensures.name in
     let t = c.keep_text-in-Entity.ensures.text in
     record {
-      grows = grows_on _ mid _ c.keep_name-name.ensures.grows c.keep_text-in-Entity.ensures.grows;
-      used = omega (arith, b, c.keep_name-name.ensures.used, c.keep_text-in-Entity.ensures.used);
+      takes = takes_on _ mid _ _ _ _ c.keep_name-name.ensures.takes c.keep_text-in-Entity.ensures.takes b;
       literal = cc;
       inside = and_from _ _ (name_in_same mid end p same c.keep_name-name.ensures.inside) c.keep_text-in-Entity.ensures.inside;
     }

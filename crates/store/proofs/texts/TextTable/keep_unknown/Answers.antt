@@ -1,7 +1,7 @@
 use Rattle.std.proofs.Common.{◌∙◌, arith}
 use Rattle.std.proofs.lemmas.Bool.{and_from}
 use Rattle.store.specs.Pools.{pool}
-use Rattle.store.proofs.Grown.{grows_on, types_same, types_in_same}
+use Rattle.store.proofs.Grown.{takes_on, types_same, types_in_same}
 use Rattle.store.proofs.texts.TextTable.keep_unknown.Goals as goal
 
 pub returns : goal.returns
@@ -15,8 +15,7 @@ returns c =
     let a = types_same mid end o same ∙ typed.ensures.kept in
     let t = texted.ensures.text in
     record {
-      grows = grows_on _ mid _ typed.ensures.grows texted.ensures.grows;
-      used = omega (arith, typed.ensures.used, texted.ensures.used);
+      takes = takes_on _ mid _ _ _ _ typed.ensures.takes texted.ensures.takes (omega arith);
       unknown = cc;
       inside = and_from _ _ texted.ensures.inside (types_in_same mid end o same typed.ensures.inside);
     }
