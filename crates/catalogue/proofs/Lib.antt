@@ -1,4 +1,2 @@
-pub mod Cuts
 pub mod Places
-pub mod Vectors
 pub mod Putting

@@ -1,43 +1,41 @@
 -- The ways in which a name is put.
-use Rattle.std.proofs.Common.{◌≡◌, ℕ, ◌≤◌, Bool, true, false, cond, ltb, List, length, Ok, Err, sym, refl, ap, ◌∙◌, subst, inl, inr}
+use Rattle.std.proofs.Common.{◌≡◌, ℕ, ◌≤◌, true, false, List, [], ◌∷◌, ◌++◌, map, length, take, drop, Result, Ok, Err, sym, ap, ◌∙◌, subst, vec_items, Vec, arith}
 use Rattle.std.specs.List.{insert}
-use Rattle.std.proofs.lemmas.Bool.{le-ltb}
+use Rattle.std.specs.List.Sorted.{IsSearchInRange, IsBinarySearchResult}
+use Rattle.std.specs.declared.alloc.Global.{Global}
+use Rattle.std.proofs.lemmas.List.{length-map, map-append, take-map, drop-map}
+use Rattle.std.proofs.lemmas.List.Sorted.{searchable_from_sorted}
 use Rattle.terms.specs.Terms.{Text}
 use Rattle.terms.specs.Orders.{text_order}
-use Rattle.terms.specs.declared.refusal.Refusal.TheVariants as refusal
 use Rattle.terms.proofs.LeafLaws.{text_laws}
 use Rattle.catalogue.specs.Placed.{placed, stands, rises, Among}
-use Rattle.catalogue.specs.Puts.{put_answer, put_names, Puts, Settles}
+use Rattle.catalogue.specs.Puts.{Placing, Puts, Settles}
 use Rattle.catalogue.specs.declared.entry.Entry.TheVariants as entry
-use Rattle.catalogue.proofs.Places.{rises_placed, members_from, members_to, stands_among, absent_among}
+use Rattle.std.proofs.lemmas.Bool.Decides.{nat_tests}
+use Rattle.catalogue.proofs.Places.{total, sorted, found, gap, placed_same, members_from, members_to, absent_among}
 
-module _ (ns : List Text) (t : Text) (fits : length t ≤ 512) where
-  short : ltb 512 (length t) ≡ false
-  short = le-ltb 512 (length t) fits
+-- what the library's search gives
+pub searched : (vs : List (Vec ℕ Global)) (t : Text) (r : Result ℕ ℕ) → rises text_order (map vec_items vs) ≡ true → IsSearchInRange r (length vs) → IsBinarySearchResult (λ v. text_order (vec_items v) t) vs r → Placing (map vec_items vs) t r
+searched vs t (Ok i) h b p =
+    let e = found text_laws vec_items t vs i [] b p in
+    (e.0, omega (arith, length-map vs vec_items), e.1, placed_same text_laws t (map vec_items vs) h e.0)
+searched vs t (Err i) h b p =
+    let q = p (searchable_from_sorted (total text_laws) vec_items vs t (sorted text_laws vec_items t vs h)) in
+    let g = gap text_laws vec_items t vs i b q.0 q.1 in
+    (g.0, omega (arith, length-map vs vec_items), g.1)
 
-  answers : (b : Bool) → stands text_order t ns ≡ b → put_answer ns t ≡ cond b (Ok entry.Repeated) (Ok entry.Kept)
-  answers b s = (λ j. cond (short j) (Err refusal.Text) (cond (s j) (Ok entry.Repeated) (Ok entry.Kept)))
+-- a copy put in at the gap
+pub kept : (vs after : List (Vec ℕ Global)) (ns : List Text) (t : Text) (i : ℕ) (v : Vec ℕ Global) → map vec_items vs ≡ ns → after ≡ insert vs i v → vec_items v ≡ t → Placing ns t (Err i) → map vec_items after ≡ placed text_order t ns
+kept vs after ns t i v n a e p =
+    ap (map vec_items) a
+    ∙ map-append vec_items (take i vs) (v ∷ drop i vs)
+    ∙ (λ j. sym (take-map vec_items i vs) j ++ (vec_items v ∷ sym (drop-map vec_items i vs) j))
+    ∙ (λ j. insert (n j) i (e j))
+    ∙ sym p.2
 
-  follow : put_names ns t ≡ placed text_order t ns
-  follow = ap (λ (c : Bool). cond c ns (placed text_order t ns)) short
-
-  pub put_repeated : (after : List Text) → after ≡ ns → stands text_order t ns ≡ true → placed text_order t ns ≡ ns → Puts ns t (Ok entry.Repeated) after
-  put_repeated after a s p = inl (sym (answers true s), a ∙ sym p ∙ sym follow)
-
-  pub put_kept : (after : List Text) → stands text_order t ns ≡ false → after ≡ placed text_order t ns → Puts ns t (Ok entry.Kept) after
-  put_kept after s a = inl (sym (answers false s), a ∙ sym follow)
-
-  pub put_unmade : (after : List Text) → stands text_order t ns ≡ false → after ≡ ns → Puts ns t (Err refusal.Memory) after
-  put_unmade after s a = inr (refl, answers false s, a)
+pub puts_kept : (ns after : List Text) (t : Text) → length t ≤ 512 → stands text_order t ns ≡ false → after ≡ placed text_order t ns → Puts ns t (Ok entry.Kept) after
+puts_kept ns after t l s a = grind (arith, nat_tests, l, s, a)
 
 pub settles_kept : (ns : List Text) (t : Text) (after : List Text) → stands text_order t ns ≡ false → after ≡ placed text_order t ns → Settles ns t (Ok entry.Kept) after
 settles_kept ns t after s a =
     (absent_among text_laws t ns s, λ z. (λ m. members_from text_laws z t ns (subst (Among z) a m), λ m. subst (Among z) (sym a) (members_to text_laws z t ns m)))
-
-pub settles_repeated : (ns : List Text) (t : Text) (after : List Text) → stands text_order t ns ≡ true → after ≡ ns → Settles ns t (Ok entry.Repeated) after
-settles_repeated ns t after s a = (stands_among text_laws t ns s, a)
-
--- what follows still rises, whether or not memory sufficed
-pub put_rises : (b : Bool) (ns after : List Text) (i : ℕ) (t : Text) → after ≡ cond b (insert ns i t) ns → placed text_order t ns ≡ insert ns i t → rises text_order ns ≡ true → rises text_order after ≡ true
-put_rises true ns after i t a p h = ap (rises text_order) (a ∙ sym p) ∙ rises_placed text_laws t ns h
-put_rises false ns after i t a p h = ap (rises text_order) a ∙ h

@@ -1,4 +1,3 @@
 pub mod Noting
 pub mod Runs
 pub mod Writing
-pub mod Reporting

@@ -1,55 +1,26 @@
 -- Whole runs over lines.
-use Rattle.std.proofs.Common.{◌≡◌, ℕ, ◌+◌, ◌<◌, ◌≤◌, Bool, true, false, cond, eqb, ltb, ◌⊎◌, List, [], ◌∷◌, length, Some, None, Option, sym, refl, ap, ◌∙◌, subst, inl, inr, arith}
-use Rattle.std.proofs.lemmas.Bool.{ltb-true, ltb-false}
+use Rattle.std.proofs.Common.{◌≡◌, ◌+◌, ◌≤◌, ◌⊎◌, List, [], ◌∷◌, length, sym, ap, subst, inl, inr, arith}
+use Rattle.std.proofs.lemmas.Bool.{cases_lt, lt-ltb, le-ltb}
 use Rattle.terms.specs.Terms.{Text}
-use Rattle.terms.specs.Orders.{text_order}
 use Rattle.terms.proofs.LeafLaws.{text_laws}
-use Rattle.catalogue.specs.Lines.{after_line, split_line, lines}
-use Rattle.catalogue.specs.Placed.{placed, Among}
+use Rattle.catalogue.specs.Placed.{Among}
 use Rattle.catalogue.specs.Puts.{put_names}
 use Rattle.ledger.specs.Ledgers.{LedgerS, blank, noted, noted_all, Exactly}
 use Rattle.catalogue.proofs.Places.{members_from, members_to}
 
--- ---- one line after the other
-
-after_by : (x : ℕ) (xs : List ℕ) (t : Bool) → length (after_line xs) ≤ length xs → length (cond t xs (after_line xs)) < length (x ∷ xs)
-after_by x xs true h = omega arith
-after_by x xs false h = omega arith
-
-after_upto : (xs : List ℕ) → length (after_line xs) ≤ length xs
-after_upto [] = omega arith
-after_upto (x ∷ xs) = let h = after_by x xs (eqb x 10) (after_upto xs) in omega arith
-
-abbrev rest_of : Option (Text × List ℕ) → List ℕ
-rest_of None = []
-rest_of (Some p) = p.1
-
--- what follows a line is shorter
-pub shorter : (xs l r : List ℕ) → Some (l, r) ≡ split_line xs → length r < length xs
-shorter [] l r e = let z : ◌≡◌ {A = ℕ} 0 1 = cc in absurd (omega arith)
-shorter (x ∷ xs) l r e = let h = after_by x xs (eqb x 10) (after_upto xs) in omega (arith, ap length (ap rest_of e))
-
-pub run_on : (s s' whole : LedgerS) (line : Text) (after : List ℕ) (ls : List Text) → ls ≡ line ∷ lines after → s' ≡ noted s line → noted_all s ls ≡ whole → noted_all s' (lines after) ≡ whole
-run_on s s' whole line after ls e f h = ap (λ (q : LedgerS). noted_all q (lines after)) f ∙ sym (ap (noted_all s) e) ∙ h
-
 -- ---- what is kept of the lines
 
-module _ (z t : Text) (ns : List Text) where
-  from_by : (b : Bool) → ltb 512 (length t) ≡ b → Among z (cond b ns (placed text_order t ns)) → Among z ns ⊎ ((z ≡ t) × (length z ≤ 512))
-  from_by true e m = inl m
-  from_by false e m = elim (members_from text_laws z t ns m) [ inl q ↦ inr (q, omega (arith, ap length q, ltb-false 512 (length t) e)) | inr n ↦ inl n ]
+put_from : (z t : Text) (ns : List Text) → Among z (put_names ns t) → Among z ns ⊎ ((z ≡ t) × (length z ≤ 512))
+put_from z t ns m = elim (cases_lt 512 (length t)) [
+  | inl long ↦ inl (rw (lt-ltb 512 (length t) long) at m)
+  | inr fits ↦ elim (members_from text_laws z t ns (rw (le-ltb 512 (length t) fits) at m)) [ inl q ↦ inr (q, rw q fits) | inr n ↦ inl n ]
+]
 
-  to_by : (b : Bool) → ltb 512 (length t) ≡ b → Among z ns ⊎ ((z ≡ t) × (length z ≤ 512)) → Among z (cond b ns (placed text_order t ns))
-  to_by true e (inl m) = m
-  to_by true e (inr p) = absurd (omega (arith, ap length p.0, ltb-true 512 (length t) e))
-  to_by false e (inl m) = members_to text_laws z t ns (inr m)
-  to_by false e (inr p) = members_to text_laws z t ns (inl p.0)
-
-  put_from : Among z (put_names ns t) → Among z ns ⊎ ((z ≡ t) × (length z ≤ 512))
-  put_from = from_by (ltb 512 (length t)) refl
-
-  put_to : Among z ns ⊎ ((z ≡ t) × (length z ≤ 512)) → Among z (put_names ns t)
-  put_to = to_by (ltb 512 (length t)) refl
+put_to : (z t : Text) (ns : List Text) → Among z ns ⊎ ((z ≡ t) × (length z ≤ 512)) → Among z (put_names ns t)
+put_to z t ns m = elim (cases_lt 512 (length t)) [
+  | inl long ↦ rw (lt-ltb 512 (length t) long) (elim m [ inl n ↦ n | inr p ↦ absurd (omega (arith, ap length p.0)) ])
+  | inr fits ↦ rw (le-ltb 512 (length t) fits) (members_to text_laws z t ns (elim m [ inl n ↦ inr n | inr p ↦ inl p.0 ]))
+]
 
 all_from : (z : Text) (ls : List Text) (s : LedgerS) → Among z (noted_all s ls).names → Among z s.names ⊎ (Among z ls × (length z ≤ 512))
 all_from z [] s m = inl m

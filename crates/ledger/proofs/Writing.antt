@@ -1,7 +1,7 @@
 -- A loop that writes a part for each member of a list.
-use Rattle.std.proofs.Common.{◌≡◌, ℕ, ◌+◌, ◌<◌, ◌≤◌, List, [], ◌∷◌, ◌++◌, map, length, get_or, take, sym, ap, ◌∙◌}
+use Rattle.std.proofs.Common.{◌≡◌, ℕ, ◌+◌, ◌<◌, List, [], ◌∷◌, ◌++◌, map, length, get_or, take, sym, ap, ◌∙◌}
 use Rattle.std.specs.List.{flat_map}
-use Rattle.std.proofs.lemmas.List.{flat_map_more, map_more, take_all, append_assoc}
+use Rattle.std.proofs.lemmas.List.{flat_map_more, map_more, append_assoc}
 
 module _ {X Y : Type 0} (g : X → Y) (f : Y → List ℕ) (bs : List ℕ) (xs : List X) where
   pub wrote_more : (i : ℕ) (x : X) (out out' s t : List ℕ) → i < length xs → x ≡ get_or xs i x → out ≡ bs ++ flat_map f (map g (take i xs)) → out' ≡ out ++ s → s ≡ t → t ≡ f (g x) → out' ≡ bs ++ flat_map f (map g (take (i + 1) xs))
@@ -9,9 +9,6 @@ module _ {X Y : Type 0} (g : X → Y) (f : Y → List ℕ) (bs : List ℕ) (xs :
       u ∙ (λ j. e j ++ (v ∙ w) j)
       ∙ flat_map_more f bs (map g (take i xs)) (g x)
       ∙ ap (λ ys. bs ++ flat_map f ys) (ap (λ y. map g (take i xs) ++ g y ∷ []) h ∙ sym (map_more g xs i x l))
-
-  pub wrote_all : (i : ℕ) (out : List ℕ) → length xs ≤ i → out ≡ bs ++ flat_map f (map g (take i xs)) → out ≡ bs ++ flat_map f (map g xs)
-  wrote_all i out l e = e ∙ ap (λ ys. bs ++ flat_map f (map g ys)) (take_all i xs l)
 
 -- two parts written one after the other
 pub wrote_both : (out mid out' a b s t : List ℕ) → mid ≡ out ++ a → out' ≡ mid ++ b → a ≡ s → b ≡ t → out' ≡ out ++ (s ++ t)

@@ -5,7 +5,7 @@ use Rattle.terms.specs.Orders.{text_order}
 use Rattle.terms.specs.declared.refusal.Refusal.{Refusal}
 use Rattle.terms.specs.declared.refusal.Refusal.TheVariants as refusal
 use Rattle.catalogue.specs.Placed.{stands, Among}
-use Rattle.catalogue.specs.Puts.{texts, put_names}
+use Rattle.catalogue.specs.Puts.{put_names}
 use Rattle.ledger.specs.declared.ledger.Ledger.{Ledger}
 use Rattle.ledger.specs.declared.ledger.LongLine.{LongLine}
 
@@ -22,7 +22,7 @@ long_of l = (l.number, l.bytes)
 
 -- what a ledger of the code stands for
 abbrev pub ledger_of : Ledger → LedgerS
-ledger_of l = record { names = texts l.catalogue.names; refused = map long_of (vec_items l.refused); read = l.read; repeated = l.repeated }
+ledger_of l = record { names = l.catalogue; refused = map long_of (vec_items l.refused); read = l.read; repeated = l.repeated }
 
 -- nothing read
 abbrev pub blank : LedgerS

@@ -1,23 +1,23 @@
 // What comes of the lines of a catalogue.
-ghost use Rattle.std.specs.Prelude.{◌≡◌, ◌+◌, vec_len};
+ghost use Rattle.std.specs.Prelude.{◌≡◌, ◌+◌, length, vec_len};
 
 use catalogue::names::Catalogue;
 
 pub mod notes;
 
 /// A line of more bytes than a name may have: its number, from one on, and its bytes.
-#[derive(Clone, Copy)]
+#[derive(Clone, Copy, Debug, PartialEq, Eq)]
 pub struct LongLine {
     pub number: u64,
     pub bytes: usize,
 }
 
 /// The names kept, the lines refused, and how many lines were read and names repeated. Each line read is of one of the three sorts.
-#[derive(Drop)]
+#[derive(Debug, Drop)]
 pub struct Ledger {
     pub catalogue: Catalogue,
     pub refused: Vec<LongLine>,
     pub read: u64,
     pub repeated: u64,
-    ghost adds: { read ≡ vec_len catalogue.names + repeated + vec_len refused },
+    ghost adds: { read ≡ length catalogue + repeated + vec_len refused },
 }

@@ -4,7 +4,7 @@ use Rattle.std.specs.Prelude.{◌≡◌, ℕ, suc, ◌+◌, ◌<◌, ◌≤◌, 
 use Rattle.std.specs.Option.{option_map}
 use Rattle.script.specs.declared.tokens.Token.{Token}
 use Rattle.terms.specs.Terms.{Text}
-use Rattle.script.specs.Lines.{onto}
+use Rattle.lines.specs.Lines.{onto}
 
 -- a space, a tab or a carriage return
 abbrev pub blank : ℕ → Bool

@@ -1,5 +1,4 @@
-//! Text as lines, and a line as tokens.
+//! A line as tokens.
 #![tactic(auto)]
 
-pub mod lines;
 pub mod tokens;

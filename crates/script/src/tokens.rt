@@ -7,7 +7,7 @@ use std::alloc::{AllocError, Global};
 const QUOTE: u8 = b'"';
 
 /// Where a token stands in its line.
-#[derive(Clone, Copy)]
+#[derive(Clone, Copy, Debug, PartialEq, Eq)]
 pub struct Token {
     pub start: usize,
     pub len: usize,
@@ -24,24 +24,21 @@ fn token_start(line: &[u8], from: usize) -> Option<usize>
     ensures value { result ≡ piece_start from (drop from line.now) }
     ensures within { IfSome result (λ i. i < length line.now) }
 {
-    for i in from..line.len() {
-        if !is_blank(line[i]) {
-            return Some(i);
-        }
-    }
-    None
+    let blanks = line.iter().skip(from).position(|b| !is_blank(*b))?;
+    Some(from + blanks)
 }
 
 // How long the piece is that `text` begins with.
 fn token_len(text: &[u8]) -> usize
     ensures { result ≡ piece_len false text.now }
 {
+    // No `position`: its closure would have to turn the flag.
     let mut quoted = false;
-    for (i, b) in text.iter().enumerate() {
-        if !quoted && is_blank(*b) {
+    for (i, &b) in text.iter().enumerate() {
+        if !quoted && is_blank(b) {
             return i;
         }
-        if *b == QUOTE {
+        if b == QUOTE {
             quoted = !quoted;
         }
     }
@@ -63,6 +60,7 @@ pub fn tokens(heap: Global, line: &[u8]) -> Result<Vec<Token>, AllocError>
     ensures value { IfOk result (λ v. Chain line.now 0 v.items) }
     ensures law { IfOk result (λ v. map (read line.now) v.items ≡ pieces line.now) }
 {
+    // No `iter::successors`: its closure would add places that nothing bounds.
     let mut all = Vec::new(heap);
     let mut from = 0;
     while let Some(token) = next_token(line, from) {
@@ -79,10 +77,7 @@ mod tests {
 
     // Whether the next token from `from` on stands at `start` and has `len` bytes.
     fn stands(line: &[u8], from: usize, start: usize, len: usize) -> bool {
-        match next_token(line, from) {
-            Some(token) => token.start == start && token.len == len,
-            None => false,
-        }
+        next_token(line, from) == Some(Token { start, len })
     }
 
     #[test]

@@ -4,7 +4,8 @@
 use ledger::report::settle;
 use std::io::{Read, Write};
 use std::process::ExitCode;
-use std::{env, fmt, io};
+use std::{env, io};
+use thiserror::Error;
 
 const USAGE: &str = "usage: settle < NAMES
 Puts the attribute names of a catalogue in order, each once.
@@ -20,44 +21,13 @@ The exit status is 0, also where lines are refused, and 1 where an argument is
 unknown, or reading, writing or memory fails.
 ";
 
-// What the arguments ask for.
-#[derive(Clone, Copy)]
-enum Request {
-    Settle,
-    Help,
-}
-
 // Why the program ends with status 1.
-#[derive(Drop)]
+#[derive(Debug, Drop, Error)]
 enum Fault {
+    #[error("unknown argument '{0}': see settle --help")]
     Argument(String),
-    Failed(io::Error),
-}
-
-impl From<io::Error> for Fault {
-    fn from(e: io::Error) -> Fault {
-        Fault::Failed(e)
-    }
-}
-
-impl fmt::Display for Fault {
-    fn fmt<W: fmt::Write>(&self, f: &mut fmt::Formatter<W>) -> fmt::Result {
-        match self {
-            Fault::Argument(word) => write!(f, "unknown argument '{word}': see settle --help"),
-            Fault::Failed(e) => write!(f, "{e}"),
-        }
-    }
-}
-
-fn requested(rt: &HostRuntime) -> Result<Request, Fault> {
-    let mut args = env::args(rt)?.skip(1);
-    let Some(word) = args.next() else {
-        return Ok(Request::Settle);
-    };
-    match word.as_str() {
-        "-h" | "--help" => Ok(Request::Help),
-        _ => Err(Fault::Argument(word)),
-    }
+    #[error(transparent)]
+    Failed(#[from] io::Error),
 }
 
 // Reads all of standard input, and writes the report on it.
@@ -65,16 +35,17 @@ fn settle_input(rt: &HostRuntime) -> io::Result<()> {
     let heap = rt.alloc();
     let mut input = Vec::new(heap);
     rt.stdin().read_to_end(&mut input)?;
-    match settle(heap, input.as_slice()) {
-        Ok(report) => rt.stdout().write_all(report.as_slice()),
-        Err(_) => Err(io::Error::from(io::ErrorKind::OutOfMemory)),
-    }
+    let report = settle(heap, &input).map_err(|_| io::ErrorKind::OutOfMemory)?;
+    rt.stdout().write_all(&report)
 }
 
 fn run(rt: &HostRuntime) -> Result<(), Fault> {
-    match requested(rt)? {
-        Request::Settle => settle_input(rt)?,
-        Request::Help => rt.stdout().write_all(USAGE.as_bytes())?,
+    match env::args(rt)?.nth(1) {
+        None => settle_input(rt)?,
+        Some(word) if matches!(word.as_str(), "-h" | "--help") => {
+            rt.stdout().write_all(USAGE.as_bytes())?
+        }
+        Some(word) => return Err(Fault::Argument(word)),
     }
     Ok(())
 }

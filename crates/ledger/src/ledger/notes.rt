@@ -1,13 +1,13 @@
 // How lines are noted.
 ghost use Rattle.std.specs.Prelude.{◌≡◌, IfOk, MatchResult};
 ghost use Rattle.terms.specs.declared.refusal.Refusal.TheVariants.{Memory};
-ghost use Rattle.catalogue.specs.Lines.{lines};
+ghost use Rattle.lines.specs.Lines.{lines};
 ghost use Rattle.ledger.specs.Ledgers.{ledger_of, blank, noted_all, Notes, Exactly, Counted};
 
 use crate::ledger::{Ledger, LongLine};
 use catalogue::entry::Entry;
-use catalogue::lines::next_line;
 use catalogue::names::Catalogue;
+use lines::Lines;
 use std::alloc::Global;
 use terms::refusal::Refusal;
 
@@ -29,19 +29,15 @@ impl Ledger {
         ensures { Notes (ledger_of self.old) line.now result (ledger_of self.new) }
     {
         // No memory holds more lines than a u64 counts.
-        let Some(number) = self.read.checked_add(1) else {
-            return Err(Refusal::Memory);
-        };
+        let number = self.read.checked_add(1).ok_or(Refusal::Memory)?;
         match self.catalogue.put(line) {
             Ok(Entry::Kept) => {}
             Ok(Entry::Repeated) => self.repeated += 1,
             Err(Refusal::Text) => {
                 let bytes = line.len();
-                if self.refused.push(LongLine { number, bytes }).is_err() {
-                    return Err(Refusal::Memory);
-                }
+                self.refused.push(LongLine { number, bytes })?;
             }
-            Err(_) => return Err(Refusal::Memory),
+            Err(refusal) => return Err(refusal),
         }
         self.read = number;
         Ok(())
@@ -54,10 +50,8 @@ impl Ledger {
         ensures counts { IfOk result (λ l. Counted (lines input.now) (ledger_of l)) }
     {
         let mut ledger = Ledger::new(heap);
-        let mut rest = input;
-        while let Some((line, after)) = next_line(rest) {
+        for line in Lines::of(input) {
             ledger.note(line)?;
-            rest = after;
         }
         Ok(ledger)
     }

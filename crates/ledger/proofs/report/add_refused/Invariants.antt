@@ -4,5 +4,5 @@ use Rattle.ledger.specs.Ledgers.{long_of}
 use Rattle.ledger.specs.Reports.{refusal_line}
 use Rattle.ledger.proofs.report.add_refused.Given as goal
 
-abbrev pub invariant-loop-line : goal.invariant-loop-line
-invariant-loop-line l = vec_items l.out ≡ vec_items l.initial.out ++ flat_map refusal_line (map long_of (take l.line-index l.refused))
+abbrev pub invariant-loop-number : goal.invariant-loop-number
+invariant-loop-number l = vec_items l.out ≡ vec_items l.initial.out ++ flat_map refusal_line (map long_of (take l.number-index l.refused))

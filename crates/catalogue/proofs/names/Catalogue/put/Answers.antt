@@ -1,47 +1,23 @@
-use Rattle.std.proofs.Common.{true, false, is_ok, sym, refl, ◌∙◌, subst, arith}
-use Rattle.catalogue.specs.Puts.{texts, Puts, Settles}
-use Rattle.catalogue.proofs.Vectors.{texts_len, texts_after}
-use Rattle.catalogue.proofs.Putting.{put_repeated, put_kept, put_unmade, put_rises, settles_kept, settles_repeated}
+use Rattle.std.proofs.Common.{◌≡◌, refl}
+use Rattle.terms.specs.Orders.{text_order}
+use Rattle.terms.proofs.LeafLaws.{text_laws}
+use Rattle.catalogue.specs.Placed.{placed}
+use Rattle.catalogue.specs.Puts.{texts}
+use Rattle.catalogue.proofs.Places.{stands_among, rises_placed}
+use Rattle.catalogue.proofs.Putting.{kept, puts_kept, settles_kept}
 use Rattle.catalogue.proofs.names.Catalogue.put.Goals as goal
-use Rattle.catalogue.proofs.names.Catalogue.put.Goals.{in-Ok-insert, in-Err-insert}
 
-pub returns-in_default : goal.returns-in_default
-returns-in_default c =
-    let ns = texts c.args.self.now.names in
-    let h = c.in_default.ensures in
-    record {
-      value = put_repeated ns c.args.name.now c.if-name-gt-LONGEST.false ns refl h.0 h.3;
-      settles = settles_repeated ns c.args.name.now ns h.0 refl;
-    }
+pub returns-in_default-clause-settles : goal.returns-in_default-clause-settles
+returns-in_default-clause-settles c = (stands_among text_laws c.args.name.now c.args.self.now c.in_default.ensures.0, refl)
 
-pub insert-requires : goal.insert-requires
-insert-requires c = omega (arith, texts_len c.args.self.now.names, c.in-Err.ensures)
+added : (c : goal.In_ok-insert) → texts c.insert.new.self ≡ placed text_order c.args.name.now c.args.self.now
+added c = kept c.self.inside.names.items c.insert.new.self.items c.args.self.now c.args.name.now c.in-Err.place c.in_ok-copy.copy c.self.view_is c.in_ok-insert.ensures.items c.in_ok-copy.ensures.items c.in-Err.ensures
 
-pub invariant_of-self : goal.invariant_of-self
-invariant_of-self c =
-    let v = c.args.self.now.names in
-    let a = texts_after (is_ok c.insert.result) v c.insert.new.self c.in-Err.place c.in-Ok.copy c.args.name.now c.insert.ensures.items c.in-Ok.ensures.items in
-    record { ascends = put_rises (is_ok c.insert.result) (texts v) (texts c.insert.new.self) c.in-Err.place c.args.name.now a c.in-Err.ensures.2 c.args.self.now.ascends }
+pub invariant_of-self-2 : goal.invariant_of-self-2
+invariant_of-self-2 c = rw (added c) (rises_placed text_laws c.args.name.now c.args.self.now (rw (← c.self.view_is) c.self.invariant))
 
 pub returns : goal.returns
 returns c =
-    let v = c.args.self.now.names in
-    let ns = texts v in
+    let ns = c.args.self.now in
     let t = c.args.name.now in
-    let after = texts c.insert.new.self in
-    let h = c.in-Err.ensures in
-    let u = c.in-Ok.ensures.items in
-    elim c.match-insert.branch [
-      | in-Ok-insert w ↦
-          let a = texts_after true v c.insert.new.self c.in-Err.place c.in-Ok.copy t w.in-Ok-insert.ensures.items u ∙ sym h.2 in
-          record {
-            value = subst (λ r. Puts ns t r after) (sym w.result-is) (put_kept ns t c.if-name-gt-LONGEST.false after h.0 a);
-            settles = subst (λ r. Settles ns t r after) (sym w.result-is) (settles_kept ns t after h.0 a);
-          }
-      | in-Err-insert w ↦
-          let a = texts_after false v c.insert.new.self c.in-Err.place c.in-Ok.copy t w.in-Err-insert.ensures.items u in
-          record {
-            value = subst (λ r. Puts ns t r after) (sym w.result-is) (put_unmade ns t c.if-name-gt-LONGEST.false after h.0 a);
-            settles = subst (λ r. Settles ns t r after) (sym w.result-is) a;
-          }
-    ]
+    record { value = puts_kept ns _ t c.if-name-gt-LONGEST.false c.in-Err.ensures.0 (added c); settles = settles_kept ns t _ c.in-Err.ensures.0 (added c) }
