@@ -1,6 +1,6 @@
 // Names in order, each once.
-ghost use Rattle.std.specs.Prelude.{◌≡◌, true, List, [], map, vec_items};
-ghost use Rattle.terms.specs.Terms.{Text};
+ghost use Rattle.std.specs.Prelude.{◌≡◌, ℕ, true, List, [], map, vec_items, Vec};
+ghost use Rattle.std.specs.declared.alloc.Global.{Global};
 ghost use Rattle.terms.specs.Orders.{text_order};
 ghost use Rattle.catalogue.specs.Placed.{rises};
 ghost use Rattle.catalogue.specs.Puts.{texts, Placing, Puts, Settles};
@@ -21,9 +21,9 @@ pub struct Catalogue {
 }
 
 impl Model for Catalogue {
-    ghost Value = { List Text };
+    ghost Value = { List (Vec ℕ Global) };
 
-    ghost view = { λ c. texts c.names };
+    ghost view = { λ c. c.names.items };
 
     ghost invariant = { λ c. rises text_order (texts c.names) ≡ true };
 }
@@ -40,15 +40,15 @@ impl Catalogue {
 
     /// The names, the least first.
     pub fn names(&self) -> &[Vec<u8>]
-        ensures value { map vec_items result.now ≡ self.now }
-        ensures ascend { rises text_order self.now ≡ true }
+        ensures value { result.now ≡ self.now }
+        ensures ascend { rises text_order (map vec_items result.now) ≡ true }
     {
         self.names.as_slice()
     }
 
     // Where the name stands, or the place that it would take.
     fn place(&self, name: &[u8]) -> Result<usize, usize>
-        ensures { Placing self.now name.now result }
+        ensures { Placing (map vec_items self.now) name.now result }
     {
         self.names
             .binary_search_by(|kept| compare_text(kept.as_slice(), name))
@@ -56,8 +56,8 @@ impl Catalogue {
 
     /// Puts a name at its place, unless it stands there already. More than 512 bytes are refused as text, and then, or without memory, nothing changes.
     pub fn put(&mut self, name: &[u8]) -> Result<Entry, Refusal>
-        ensures value { Puts self.old name.now result self.new }
-        ensures settles { Settles self.old name.now result self.new }
+        ensures value { Puts (map vec_items self.old) name.now result (map vec_items self.new) }
+        ensures settles { Settles (map vec_items self.old) name.now result (map vec_items self.new) }
     {
         if name.len() > LONGEST {
             return Err(Refusal::Text);

@@ -22,7 +22,7 @@ long_of l = (l.number, l.bytes)
 
 -- what a ledger of the code stands for
 abbrev pub ledger_of : Ledger → LedgerS
-ledger_of l = record { names = l.catalogue; refused = map long_of (vec_items l.refused); read = l.read; repeated = l.repeated }
+ledger_of l = record { names = map vec_items l.catalogue; refused = map long_of (vec_items l.refused); read = l.read; repeated = l.repeated }
 
 -- nothing read
 abbrev pub blank : LedgerS

@@ -10,5 +10,6 @@ returns c =
     let l = c.loop-line.ledger in
     let ls = lines c.args.input.now in
     let e : ledger_of l ≡ noted_all blank ls = sym (ap (noted_all (ledger_of l)) c.in-None.ensures.steps.0) ∙ c.loop-line.invariant in
+    let n = length-map l.catalogue vec_items in
     let m = length-map (vec_items l.refused) long_of ∙ sym l.refused.ok.0 in
     record { value = e; members = run_exactly ls (ledger_of l) e; counts = (run_read ls (ledger_of l) e, omega (arith, l.adds)) }
