@@ -1,10 +1,8 @@
 -- A member at its place, under a lawful order.
-use Rattle.std.proofs.Common.{◌≡◌, ℕ, zero, suc, ◌+◌, ◌<◌, ◌≤◌, true, false, ◌⊎◌, ◌||◌, List, [], ◌∷◌, map, length, get_or, Ordering, Less, Equal, Greater, sym, refl, ap, ◌∙◌, inl, inr, true≢false, arith}
-use Rattle.std.specs.Cmp.{IsTotalOrder}
-use Rattle.std.specs.List.{insert, AllWithin, HoldsAt}
-use Rattle.std.specs.List.Sorted.{IsSortedBy}
+use Rattle.std.proofs.Common.{◌≡◌, ℕ, zero, suc, ◌+◌, ◌<◌, ◌≤◌, true, false, ◌⊎◌, ◌||◌, List, [], ◌∷◌, length, get_or, Ordering, Less, Equal, Greater, sym, refl, ap, ◌∙◌, subst, inl, inr, true≢false, arith}
+use Rattle.std.specs.List.{insert}
 use Rattle.std.specs.Ordering.{is_eq, is_lt, ordering_reverse}
-use Rattle.std.proofs.lemmas.Bool.{and_parts, and_from, or_cases, or_parts}
+use Rattle.std.proofs.lemmas.Bool.{and_parts, and_from, or_from, or_left, or_right, or_cases, or_parts, cases_order}
 use Rattle.terms.specs.Compare.{Order}
 use Rattle.terms.proofs.Lawful.{Lawful, less_greater, self}
 use Rattle.catalogue.specs.Placed.{pick, placed, stands, under, rises, Among}
@@ -26,39 +24,78 @@ module _ {A : Type 0} {o : Order A} (w : Lawful o) where
   turned : (x y : A) (r : Ordering) → o x y ≡ r → o y x ≡ ordering_reverse r
   turned x y r e = w.swap x y ∙ ap ordering_reverse e
 
-  pub total : IsTotalOrder o
-  total = record { antisymm = λ x y. w.swap y x; trans = onward; congr = λ x y z e. ap (λ (v : A). o v z) (w.same x y e) }
+  back : (x y z : A) → o x y ≡ Greater → o y z ≡ Greater → o x z ≡ Greater
+  back x y z e f = rw (e, f) at (w.steps x y z)
 
-  -- ---- the search for x among what f gives of some members
+  -- ---- members of a list that rises
 
-  module _ {B : Type 0} (f : B → A) (x : A) where
-    pub sorted : (vs : List B) → rises o (map f vs) ≡ true → IsSortedBy (λ a b. is_lt (o (f a) (f b))) vs
-    sorted [] h k d l m = absurd (omega arith)
-    sorted (v ∷ []) h k d l m = absurd (omega arith)
-    sorted (v ∷ u ∷ vs) h zero d l m = grind (arith, h, turned (f v) (f u) Less)
-    sorted (v ∷ u ∷ vs) h (suc k) d l m =
-        let r = sorted (u ∷ vs) (and_parts (under o (f v) (map f (u ∷ vs))) (rises o (map f (u ∷ vs))) h).1 k d (omega arith) (omega arith) in
-        let e : suc k + 1 ≡ suc (k + 1) = omega arith in
-        rw e r
+  under_at : (x : A) (ys : List A) (k : ℕ) (d : A) → under o x ys ≡ true → k < length ys → o x (get_or ys k d) ≡ Less
+  under_at x [] k d h l = absurd (omega arith)
+  under_at x (y ∷ ys) zero d h l = is_less (o x y) (and_parts (is_lt (o x y)) (under o x ys) h).0
+  under_at x (y ∷ ys) (suc k) d h l = under_at x ys k d (and_parts (is_lt (o x y)) (under o x ys) h).1 (omega arith)
 
-    pub found : (vs : List B) (i : ℕ) (d : A) → i < length vs → HoldsAt (λ v. o (f v) x ≡ Equal) vs i → (stands o x (map f vs) ≡ true) × (get_or (map f vs) i d ≡ x)
-    found [] i d l h = absurd (omega arith)
-    found (v ∷ vs) zero d l h = (grind (arith, turned (f v) x Equal (h v)), w.same (f v) x (h v))
-    found (v ∷ vs) (suc i) d l h =
-        let r = found vs i d (omega arith) h in
-        (grind (arith, r.0), r.1)
+  -- an earlier member is less than a later one
+  pub rises_at : (ys : List A) (i j : ℕ) (d : A) → rises o ys ≡ true → i < j → j < length ys → o (get_or ys i d) (get_or ys j d) ≡ Less
+  rises_at [] i j d h l m = absurd (omega arith)
+  rises_at (y ∷ ys) i zero d h l m = absurd (omega arith)
+  rises_at (y ∷ ys) zero (suc j) d h l m = under_at y ys j d (and_parts (under o y ys) (rises o ys) h).0 (omega arith)
+  rises_at (y ∷ ys) (suc i) (suc j) d h l m = rises_at ys i j d (and_parts (under o y ys) (rises o ys) h).1 (omega arith) (omega arith)
 
-    pub gap : (vs : List B) (i : ℕ) → i ≤ length vs → AllWithin (λ v. o (f v) x ≡ Less) vs 0 i → AllWithin (λ v. o (f v) x ≡ Greater) vs i (length vs) → (stands o x (map f vs) ≡ false) × (placed o x (map f vs) ≡ insert (map f vs) i x)
-    gap [] zero l b a = (refl, refl)
-    gap [] (suc i) l b a = absurd (omega arith)
-    gap (v ∷ vs) zero l b a =
-        let r = gap vs 0 (omega arith) (λ k d m n. absurd (omega arith)) (λ k d m n. a (suc k) d (omega arith) (omega arith)) in
-        let t = turned (f v) x Greater (a 0 v (omega arith) (omega arith)) in
-        (grind (arith, r.0, t), rw t)
-    gap (v ∷ vs) (suc i) l b a =
-        let r = gap vs i (omega arith) (λ k d m n. b (suc k) d (omega arith) (omega arith)) (λ k d m n. a (suc k) d (omega arith) (omega arith)) in
-        let t = turned (f v) x Less (b 0 v (omega arith) (omega arith)) in
-        (grind (arith, r.0, t), rw (t, r.1))
+  -- ---- the narrowing of a search for x
+
+  abbrev pub Below : A → List A → A → ℕ → Type 0
+  Below x ys d i = (k : ℕ) → k < i → o x (get_or ys k d) ≡ Greater
+
+  abbrev pub Above : A → List A → A → ℕ → Type 0
+  Above x ys d i = (k : ℕ) → i ≤ k → k < length ys → o x (get_or ys k d) ≡ Less
+
+  -- x is less than the member at m, and so than all that follow
+  pub lowered : (x : A) (ys : List A) (d : A) (m : ℕ) → rises o ys ≡ true → o x (get_or ys m d) ≡ Less → Above x ys d m
+  lowered x ys d m h e k l n =
+      elim (cases_order m k) [
+        | inl s ↦ subst (λ (j : ℕ). o x (get_or ys j d) ≡ Less) s e
+        | inr s ↦ elim s [
+          | inl t ↦ onward x (get_or ys m d) (get_or ys k d) e (rises_at ys m k d h t n)
+          | inr t ↦ absurd (omega arith)
+        ]
+      ]
+
+  -- x is above the member at m, and so above all before it
+  pub raised : (x : A) (ys : List A) (d : A) (m : ℕ) → rises o ys ≡ true → m < length ys → o x (get_or ys m d) ≡ Greater → Below x ys d (m + 1)
+  raised x ys d m h n e k l =
+      elim (cases_order k m) [
+        | inl s ↦ subst (λ (j : ℕ). o x (get_or ys j d) ≡ Greater) (sym s) e
+        | inr s ↦ elim s [
+          | inl t ↦ back x (get_or ys m d) (get_or ys k d) e (turned (get_or ys k d) (get_or ys m d) Less (rises_at ys k m d h t n))
+          | inr t ↦ absurd (omega arith)
+        ]
+      ]
+
+  -- ---- where a search ends
+
+  pub found : (x : A) (ys : List A) (d : A) (m : ℕ) → m < length ys → o x (get_or ys m d) ≡ Equal → stands o x ys ≡ true
+  found x [] d m l e = absurd (omega arith)
+  found x (y ∷ ys) d zero l e = or_left (is_eq (o x y)) (stands o x ys) (ap is_eq e)
+  found x (y ∷ ys) d (suc m) l e = or_right (is_eq (o x y)) (stands o x ys) (found x ys d m (omega arith) e)
+
+  missed : (x : A) (ys : List A) (d : A) → ((k : ℕ) → k < length ys → is_eq (o x (get_or ys k d)) ≡ false) → stands o x ys ≡ false
+  missed x [] d h = refl
+  missed x (y ∷ ys) d h = or_from (is_eq (o x y)) (stands o x ys) (h 0 (omega arith)) (missed x ys d (λ k l. h (suc k) (omega arith)))
+
+  pub absent : (x : A) (ys : List A) (d : A) (i : ℕ) → Below x ys d i → Above x ys d i → stands o x ys ≡ false
+  absent x ys d i b a = missed x ys d (λ k l. elim (cases_order i k) [
+    | inl s ↦ ap is_eq (a k (omega arith) l)
+    | inr s ↦ elim s [ inl t ↦ ap is_eq (a k (omega arith) l) | inr t ↦ ap is_eq (b k t) ]
+  ])
+
+  -- a new member goes before the first that is greater
+  pub placed_at : (x : A) (ys : List A) (d : A) (i : ℕ) → i ≤ length ys → Below x ys d i → Above x ys d i → placed o x ys ≡ insert ys i x
+  placed_at x [] d zero l b a = refl
+  placed_at x [] d (suc i) l b a = absurd (omega arith)
+  placed_at x (y ∷ ys) d zero l b a = ap (λ (r : Ordering). pick r (x ∷ y ∷ ys) (y ∷ ys) (y ∷ placed o x ys)) (a 0 (omega arith) (omega arith))
+  placed_at x (y ∷ ys) d (suc i) l b a =
+      ap (λ (r : Ordering). pick r (x ∷ y ∷ ys) (y ∷ ys) (y ∷ placed o x ys)) (b 0 (omega arith))
+      ∙ ap (λ (r : List A). y ∷ r) (placed_at x ys d i (omega arith) (λ k m. b (suc k) (omega arith)) (λ k m n. a (suc k) (omega arith) (omega arith)))
 
   -- ---- a member that stands is not placed again
 
@@ -81,6 +118,9 @@ module _ {A : Type 0} {o : Order A} (w : Lawful o) where
       by Less e s b m = less_greater (sym (b s) ∙ turned x y Less e)
       by Equal e s b m = refl
       by Greater e s b m = ap (λ (l : List A). y ∷ l) (m s)
+
+  pub placed_found : (x : A) (ys : List A) (d : A) (m : ℕ) → rises o ys ≡ true → m < length ys → o x (get_or ys m d) ≡ Equal → placed o x ys ≡ ys
+  placed_found x ys d m h l e = placed_same x ys h (found x ys d m l e)
 
   -- ---- the laws of a list with one more member
 

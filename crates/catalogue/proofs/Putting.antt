@@ -1,28 +1,20 @@
 -- The ways in which a name is put.
-use Rattle.std.proofs.Common.{◌≡◌, ℕ, ◌≤◌, true, false, List, [], ◌∷◌, ◌++◌, map, length, take, drop, Result, Ok, Err, sym, ap, ◌∙◌, subst, vec_items, Vec, arith}
+use Rattle.std.proofs.Common.{◌≡◌, ℕ, ◌<◌, ◌≤◌, false, List, [], ◌∷◌, ◌++◌, map, length, get_or, take, drop, Ok, Err, Ordering, sym, ap, ◌∙◌, subst, vec_items, Vec, arith}
 use Rattle.std.specs.List.{insert}
-use Rattle.std.specs.List.Sorted.{IsSearchInRange, IsBinarySearchResult}
 use Rattle.std.specs.declared.alloc.Global.{Global}
-use Rattle.std.proofs.lemmas.List.{length-map, map-append, take-map, drop-map}
-use Rattle.std.proofs.lemmas.List.Sorted.{searchable_from_sorted}
+use Rattle.std.proofs.lemmas.List.{get_or-map, map-append, take-map, drop-map}
 use Rattle.terms.specs.Terms.{Text}
 use Rattle.terms.specs.Orders.{text_order}
 use Rattle.terms.proofs.LeafLaws.{text_laws}
-use Rattle.catalogue.specs.Placed.{placed, stands, rises, Among}
+use Rattle.catalogue.specs.Placed.{placed, stands, Among}
 use Rattle.catalogue.specs.Puts.{Placing, Puts, Settles}
 use Rattle.catalogue.specs.declared.entry.Entry.TheVariants as entry
 use Rattle.std.proofs.lemmas.Bool.Decides.{nat_tests}
-use Rattle.catalogue.proofs.Places.{total, sorted, found, gap, placed_same, members_from, members_to, absent_among}
+use Rattle.catalogue.proofs.Places.{members_from, members_to, absent_among}
 
--- what the library's search gives
-pub searched : (vs : List (Vec ℕ Global)) (t : Text) (r : Result ℕ ℕ) → rises text_order (map vec_items vs) ≡ true → IsSearchInRange r (length vs) → IsBinarySearchResult (λ v. text_order (vec_items v) t) vs r → Placing (map vec_items vs) t r
-searched vs t (Ok i) h b p =
-    let e = found text_laws vec_items t vs i [] b p in
-    (e.0, omega (arith, length-map vs vec_items), e.1, placed_same text_laws t (map vec_items vs) h e.0)
-searched vs t (Err i) h b p =
-    let q = p (searchable_from_sorted (total text_laws) vec_items vs t (sorted text_laws vec_items t vs h)) in
-    let g = gap text_laws vec_items t vs i b q.0 q.1 in
-    (g.0, omega (arith, length-map vs vec_items), g.1)
+-- the answer of a comparison with the name at i, where us is how callers see vs
+pub asked : (vs us : List (Vec ℕ Global)) (t s : Text) (i : ℕ) (e : Vec ℕ Global) (r : Ordering) → vs ≡ us → i < length us → e ≡ get_or vs i e → s ≡ vec_items e → r ≡ text_order t s → text_order t (get_or (map vec_items us) i []) ≡ r
+asked vs us t s i e r v l h u q = ap (text_order t) (get_or-map vec_items us i e [] l ∙ ap (λ (ws : List (Vec ℕ Global)). vec_items (get_or ws i e)) (sym v) ∙ ap vec_items (sym h) ∙ sym u) ∙ sym q
 
 -- a copy put in at the gap
 pub kept : (vs after : List (Vec ℕ Global)) (ns : List Text) (t : Text) (i : ℕ) (v : Vec ℕ Global) → map vec_items vs ≡ ns → after ≡ insert vs i v → vec_items v ≡ t → Placing ns t (Err i) → map vec_items after ≡ placed text_order t ns

@@ -8,6 +8,7 @@ ghost use Rattle.catalogue.specs.Puts.{texts, Placing, Puts, Settles};
 use crate::entry::Entry;
 use leaves::text::compare_text;
 use std::alloc::Global;
+use std::cmp::Ordering;
 use std::marker::Model;
 use terms::refusal::Refusal;
 
@@ -50,15 +51,27 @@ impl Catalogue {
     fn place(&self, name: &[u8]) -> Result<usize, usize>
         ensures { Placing (map vec_items self.now) name.now result }
     {
-        self.names
-            .binary_search_by(|kept| compare_text(kept.as_slice(), name))
+        // No `binary_search_by`: it compares as often where the name is met at once, and names are mostly repeats.
+        let mut low = 0;
+        let mut high = self.names.len();
+        while low < high {
+            let middle = low + (high - low) / 2;
+            match compare_text(name, self.names[middle].as_slice()) {
+                Ordering::Less => high = middle,
+                Ordering::Equal => return Ok(middle),
+                Ordering::Greater => low = middle + 1,
+            }
+        }
+        Err(low)
     }
 
     /// Puts a name at its place, unless it stands there already. More than 512 bytes are refused as text, and then, or without memory, nothing changes.
     pub fn put(&mut self, name: &[u8]) -> Result<Entry, Refusal>
         ensures value { Puts (map vec_items self.old) name.now result (map vec_items self.new) }
         ensures settles { Settles (map vec_items self.old) name.now result (map vec_items self.new) }
+        ensures ascend { rises text_order (map vec_items self.new) ≡ true }
     {
+        let _ = &self.names;
         if name.len() > LONGEST {
             return Err(Refusal::Text);
         }

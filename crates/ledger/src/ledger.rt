@@ -1,5 +1,7 @@
 // What comes of the lines of a catalogue.
-ghost use Rattle.std.specs.Prelude.{◌≡◌, ◌+◌, length, vec_len};
+ghost use Rattle.std.specs.Prelude.{◌≡◌, ◌+◌, true, length, map, vec_items, vec_len};
+ghost use Rattle.terms.specs.Orders.{text_order};
+ghost use Rattle.catalogue.specs.Placed.{rises};
 
 use catalogue::names::Catalogue;
 
@@ -12,7 +14,7 @@ pub struct LongLine {
     pub bytes: usize,
 }
 
-/// The names kept, the lines refused, and how many lines were read and names repeated. Each line read is of one of the three sorts.
+/// The names kept, the lines refused, and how many lines were read and names repeated. Each line read is of one of the three sorts, and the names ascend.
 #[derive(Debug, Drop)]
 pub struct Ledger {
     pub catalogue: Catalogue,
@@ -20,4 +22,5 @@ pub struct Ledger {
     pub read: u64,
     pub repeated: u64,
     ghost adds: { read ≡ length catalogue + repeated + vec_len refused },
+    ghost ascends: { rises text_order (map vec_items catalogue) ≡ true },
 }

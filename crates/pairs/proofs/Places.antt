@@ -1,99 +1,87 @@
--- The place of a key among links whose keys ascend.
-use Rattle.std.proofs.Common.{◌≡◌, ℕ, zero, suc, ◌<◌, ◌≤◌, true, false, List, [], ◌∷◌, length, get_or, Result, Ok, Err, IfErr, Ordering, Less, Equal, Greater, sym, refl, ap, ◌∙◌, true≢false, add-one, arith}
-use Rattle.std.specs.Cmp.{IsTotalOrder}
-use Rattle.std.specs.List.{insert, HoldsAt}
-use Rattle.std.specs.List.Sorted.{IsSearchInRange, IsBinarySearchResult, IsPartitionPoint}
-use Rattle.std.specs.Ordering.{is_eq, is_lt, ordering_reverse}
-use Rattle.std.proofs.lemmas.Bool.{and_parts, and_from, or_from, or_left, or_right}
-use Rattle.std.proofs.lemmas.List.{length-map}
-use Rattle.std.proofs.lemmas.List.Sorted.{searchable_from_sorted}
+-- The search for the place of a key among pairs whose keys ascend.
+use Rattle.std.proofs.Common.{◌≡◌, ℕ, zero, suc, ◌+◌, ◌<◌, ◌≤◌, true, false, List, [], ◌∷◌, length, get_or, Ordering, Less, Greater, sym, refl, ap, ◌∙◌, subst, inl, inr, arith}
+use Rattle.std.specs.List.{insert}
+use Rattle.std.specs.Ordering.{is_eq, ordering_reverse}
+use Rattle.std.proofs.lemmas.Bool.{or_from, cases_order}
+use Rattle.std.proofs.lemmas.List.{get_or-map}
 use Rattle.terms.specs.Terms.{Text}
 use Rattle.terms.specs.Orders.{text_order}
 use Rattle.terms.specs.Bank.{Child}
 use Rattle.terms.proofs.LeafLaws.{text_laws}
 use Rattle.leaves.specs.Values.{read}
-use Rattle.model.specs.Checks.{key_under, keys_rise}
-use Rattle.model.specs.Pairs.{has_key, with_pair}
+use Rattle.model.specs.Checks.{keys_rise}
+use Rattle.model.specs.Pairs.{has_key, put_before, with_pair}
 use Rattle.pairs.specs.declared.link.Link.{Link}
 use Rattle.pairs.specs.Links.{child_of, children_of}
-use Rattle.pairs.specs.Entries.{key_at, Placing}
+use Rattle.pairs.specs.Entries.{key_at}
+use Rattle.pairs.proofs.Laws.{rises_at}
 
--- std's lemmas on a search ask for its own form of a total order
-texts_total : IsTotalOrder text_order
-texts_total = record {
-  antisymm = λ x y. text_laws.swap y x;
-  trans = λ x y z p q. rw (p, q) at (text_laws.steps x y z);
-  congr = λ x y z p. rw p at (text_laws.steps x y z);
-}
+pub onward : (x y z : Text) → text_order x y ≡ Less → text_order y z ≡ Less → text_order x z ≡ Less
+onward x y z e f = rw (e, f) at (text_laws.steps x y z)
+
+pub back : (x y z : Text) → text_order x y ≡ Greater → text_order y z ≡ Greater → text_order x z ≡ Greater
+back x y z e f = rw (e, f) at (text_laws.steps x y z)
 
 -- the answers the other way round
-turned : (x y : Text) (r : Ordering) → text_order x y ≡ r → text_order y x ≡ ordering_reverse r
+pub turned : (x y : Text) (r : Ordering) → text_order x y ≡ r → text_order y x ≡ ordering_reverse r
 turned x y r e = text_laws.swap x y ∙ ap ordering_reverse e
 
-not_above : (r : Ordering) → is_lt r ≡ true → is_lt (ordering_reverse r) ≡ false
-not_above Less e = refl
-not_above Equal e = refl
-not_above Greater e = absurd (true≢false (sym e))
+-- what a comparison with the key s of the link at i says of the pair at i, where ps is how callers see the links
+pub asked : (bs : Text) (ls : List Link) (ps : List Child) (k s b : Text) (i : ℕ) (l : Link) (r : Ordering) → children_of bs ls ≡ ps → i < length ls → l ≡ get_or ls i l → b ≡ bs → s ≡ read b l.key → r ≡ text_order k s → text_order k (key_at ps i) ≡ r
+asked bs ls ps k s b i l r v h e w t q =
+    let of = child_of bs in
+    let here : key_at (children_of bs ls) i ≡ read bs l.key = ap (λ (c : Child). c.0) (get_or-map of ls i l ([], 0) h ∙ ap of (sym e)) in
+    ap (λ (cs : List Child). text_order k (key_at cs i)) (sym v) ∙ ap (text_order k) (here ∙ ap (λ (u : Text). read u l.key) (sym w) ∙ sym t) ∙ sym q
 
--- a key stays below the first when another that it is below is put
-under_inserted : (t : Text) (cs : List Child) (i : ℕ) (p : Child) → text_order t p.0 ≡ Less → key_under t cs ≡ true → key_under t (insert cs i p) ≡ true
-under_inserted t [] zero p e h = ap is_lt e
-under_inserted t [] (suc i) p e h = ap is_lt e
-under_inserted t (c ∷ cs) zero p e h = ap is_lt e
-under_inserted t (c ∷ cs) (suc i) p e h = h
+-- ---- the narrowing of a search for k
 
--- a key that no pair has, and the place that it would take
-record Gap (k : Text) (ps : List Child) (i : ℕ) : Type 0 where
-  pub missing : has_key k ps ≡ false
-  pub placed : (n : ℕ) → with_pair (k, n) ps ≡ insert ps i (k, n)
-  pub rises : (n : ℕ) → keys_rise (insert ps i (k, n)) ≡ true
+-- k is above all keys before the place i
+abbrev pub Below : Text → List Child → ℕ → Type 0
+Below k ps i = (j : ℕ) → j < i → text_order k (key_at ps j) ≡ Greater
 
-module _ (bs k : Text) where
-  abbrev key_of : Link → Text
-  key_of l = read bs l.key
+-- k is below all keys from the place i on
+abbrev pub Above : Text → List Child → ℕ → Type 0
+Above k ps i = (j : ℕ) → i ≤ j → j < length ps → text_order k (key_at ps j) ≡ Less
 
-  -- no key is below the one before it
-  rising : (ls : List Link) (i : ℕ) (d : Link) → keys_rise (children_of bs ls) ≡ true → suc i < length ls → is_lt (text_order (key_of (get_or ls (suc i) d)) (key_of (get_or ls i d))) ≡ false
-  rising [] i d h b = absurd (omega arith)
-  rising (l ∷ []) i d h b = absurd (omega arith)
-  rising (l ∷ m ∷ ls) zero d h b = ap is_lt (text_laws.swap (key_of l) (key_of m)) ∙ not_above (text_order (key_of l) (key_of m)) (and_parts _ _ h).0
-  rising (l ∷ m ∷ ls) (suc i) d h b = rising (m ∷ ls) i d (and_parts _ _ h).1 (omega arith)
+-- k is below the key at m, and so below all that follow
+pub lowered : (k : Text) (ps : List Child) (m : ℕ) → keys_rise ps ≡ true → text_order k (key_at ps m) ≡ Less → Above k ps m
+lowered k ps m h e j l n =
+    elim (cases_order m j) [
+      | inl s ↦ subst (λ (i : ℕ). text_order k (key_at ps i) ≡ Less) s e
+      | inr s ↦ elim s [
+        | inl t ↦ onward k (key_at ps m) (key_at ps j) e (rises_at ps m j h t n)
+        | inr t ↦ absurd (omega arith)
+      ]
+    ]
 
-  found : (ls : List Link) (i : ℕ) → i < length ls → HoldsAt (λ l. text_order (key_of l) k ≡ Equal) ls i → (has_key k (children_of bs ls) ≡ true) × (key_at (children_of bs ls) i ≡ k)
-  found [] i b h = absurd (omega arith)
-  found (l ∷ ls) zero b h = (or_left _ _ (ap is_eq (turned (key_of l) k Equal (h l))), text_laws.same (key_of l) k (h l))
-  found (l ∷ ls) (suc i) b h = let f = found ls i (omega arith) h in (or_right _ _ f.0, f.1)
+-- k is above the key at m, and so above all before it
+pub raised : (k : Text) (ps : List Child) (m : ℕ) → keys_rise ps ≡ true → m < length ps → text_order k (key_at ps m) ≡ Greater → Below k ps (m + 1)
+raised k ps m h n e j l =
+    elim (cases_order j m) [
+      | inl s ↦ subst (λ (i : ℕ). text_order k (key_at ps i) ≡ Greater) (sym s) e
+      | inr s ↦ elim s [
+        | inl t ↦ back k (key_at ps m) (key_at ps j) e (turned (key_at ps j) (key_at ps m) Less (rises_at ps j m h t n))
+        | inr t ↦ absurd (omega arith)
+      ]
+    ]
 
-  abbrev Parted : List Link → ℕ → Type 0
-  Parted = IsPartitionPoint (λ l. text_order (key_of l) k ≡ Less) (λ l. text_order (key_of l) k ≡ Greater)
+-- ---- where a search ends
 
-  -- what parts the links in those below k and those above it is the gap for k
-  gap : (ls : List Link) (i : ℕ) → i ≤ length ls → Parted ls i → keys_rise (children_of bs ls) ≡ true → Gap k (children_of bs ls) i
-  gap [] zero b p h = record { missing = refl; placed = λ n. refl; rises = λ n. refl }
-  gap [] (suc i) b p h = absurd (omega arith)
-  gap (l ∷ ls) zero b p h =
-      let under = turned (key_of l) k Greater (p.1 0 l (omega arith) (omega arith)) in
-      let rest = gap ls zero (omega arith) (λ j d m n. absurd (omega arith), λ j d m n. p.1 (suc j) d (omega arith) (omega arith)) (and_parts _ _ h).1 in
-      record {
-        missing = or_from _ _ (ap is_eq under) rest.missing;
-        placed = λ n. rw under refl;
-        rises = λ n. and_from _ _ (ap is_lt under) h;
-      }
-  gap (l ∷ ls) (suc i) b p h =
-      let below = p.0 0 l (omega arith) (omega arith) in
-      let over = turned (key_of l) k Less below in
-      let rest = gap ls i (omega arith) (λ j d m n. p.0 (suc j) d (omega arith) (omega arith), λ j d m n. p.1 (suc j) d (omega arith) (omega arith)) (and_parts _ _ h).1 in
-      record {
-        missing = or_from _ _ (ap is_eq over) rest.missing;
-        placed = λ n. rw over (ap (λ (r : List Child). child_of bs l ∷ r) (rest.placed n));
-        rises = λ n. and_from _ _ (under_inserted (key_of l) (children_of bs ls) i (k, n) below (and_parts _ _ h).0) (rest.rises n);
-      }
+missed : (k : Text) (ps : List Child) → ((j : ℕ) → j < length ps → is_eq (text_order k (key_at ps j)) ≡ false) → has_key k ps ≡ false
+missed k [] h = refl
+missed k (c ∷ cs) h = or_from (is_eq (text_order k c.0)) (has_key k cs) (h 0 (omega arith)) (missed k cs (λ j l. h (suc j) (omega arith)))
 
-  -- what a binary search among the links gives
-  pub searched : (ls : List Link) (r : Result ℕ ℕ) → keys_rise (children_of bs ls) ≡ true → IsSearchInRange r (length ls) → IsBinarySearchResult (λ l. text_order (key_of l) k) ls r → record { place : Placing (children_of bs ls) k r; rises : IfErr r (λ i. (n : ℕ) → keys_rise (insert (children_of bs ls) i (k, n)) ≡ true) }
-  searched ls (Ok i) h b e =
-      let f = found ls i b e in
-      record { place = (f.0, omega (arith, length-map ls (child_of bs)), f.1); rises = tt }
-  searched ls (Err i) h b e =
-      let g = gap ls i b (e (searchable_from_sorted texts_total key_of ls k (λ j d m n. rw add-one (rising ls j d h (omega arith))))) h in
-      record { place = (g.missing, omega (arith, length-map ls (child_of bs)), g.placed); rises = g.rises }
+pub absent : (k : Text) (ps : List Child) (i : ℕ) → Below k ps i → Above k ps i → has_key k ps ≡ false
+absent k ps i b a = missed k ps (λ j l. elim (cases_order i j) [
+  | inl s ↦ ap is_eq (a j (omega arith) l)
+  | inr s ↦ elim s [ inl t ↦ ap is_eq (a j (omega arith) l) | inr t ↦ ap is_eq (b j t) ]
+])
+
+-- a new pair goes before the first whose key is greater
+pub placed_at : (k : Text) (n : ℕ) (ps : List Child) (i : ℕ) → i ≤ length ps → Below k ps i → Above k ps i → with_pair (k, n) ps ≡ insert ps i (k, n)
+placed_at k n [] zero l b a = refl
+placed_at k n [] (suc i) l b a = absurd (omega arith)
+placed_at k n (c ∷ cs) zero l b a = ap (λ (r : Ordering). put_before r (k, n) c cs (with_pair (k, n) cs)) (a 0 (omega arith) (omega arith))
+placed_at k n (c ∷ cs) (suc i) l b a =
+    ap (λ (r : Ordering). put_before r (k, n) c cs (with_pair (k, n) cs)) (b 0 (omega arith))
+    ∙ ap (λ (r : List Child). c ∷ r) (placed_at k n cs i (omega arith) (λ j m. b (suc j) (omega arith)) (λ j m o. a (suc j) (omega arith) (omega arith)))

@@ -13,6 +13,7 @@ use crate::link::Link;
 use leaves::text::compare_text;
 use leaves::text_list::Span;
 use std::alloc::Global;
+use std::cmp::Ordering;
 use std::marker::Model;
 use terms::refusal::{Refusal, check_node};
 
@@ -59,7 +60,9 @@ impl Pairs {
         Ok(Pairs { bytes, links })
     }
 
-    /// How many pairs. A caller sees their list alone, so `draft` says here what holds of any.
+    // A caller sees the list alone, so each call says in `draft` what holds of any.
+
+    /// How many pairs.
     pub fn len(&self) -> usize
         ensures count { result ≡ length self.now }
         ensures draft { Draft self.now }
@@ -69,7 +72,8 @@ impl Pairs {
 
     /// The pair at a place, the least key first, and nothing past the end.
     pub fn get(&self, at: usize) -> Option<(&[u8], u32)>
-        ensures { seen result ≡ slice_get self.now at }
+        ensures pair { seen result ≡ slice_get self.now at }
+        ensures draft { Draft self.now }
     {
         let bytes = self.bytes.as_slice();
         self.links
@@ -89,7 +93,8 @@ impl Pairs {
 
     /// The bytes of all keys.
     pub fn key_bytes(&self) -> usize
-        ensures { result ≡ keys_bytes self.now }
+        ensures total { result ≡ keys_bytes self.now }
+        ensures draft { Draft self.now }
     {
         self.bytes.len()
     }
@@ -99,16 +104,28 @@ impl Pairs {
         ensures place { Placing self.now key.now result }
         ensures rises { IfErr result (λ i. (n : ℕ) → keys_rise (insert self.now i (key.now, n)) ≡ true) }
     {
-        let bytes = self.bytes.as_slice();
-        self.links
-            .binary_search_by(|link| compare_text(link.key.of(bytes), key))
+        // No `binary_search_by`: it goes on to the last key where one that it meets is equal.
+        let mut low = 0;
+        let mut high = self.links.len();
+        while low < high {
+            let middle = low + (high - low) / 2;
+            let other = self.links[middle].key.of(self.bytes.as_slice());
+            match compare_text(key, other) {
+                Ordering::Less => high = middle,
+                Ordering::Equal => return Ok(middle),
+                Ordering::Greater => low = middle + 1,
+            }
+        }
+        Err(low)
     }
 
     /// Puts a pair at its place. The node's number, the key's length, a key that stands already and want of room are
     /// refused, in this order, and then nothing changes.
     pub fn put(&mut self, key: &[u8], node: u32) -> Result<(), Refusal>
-        ensures { Put self.old key.now node result self.new }
+        ensures answer { Put self.old key.now node result self.new }
+        ensures draft { Draft self.new }
     {
+        let _ = &self.links;
         check_node(node, NODES)?;
         if key.len() > LONGEST {
             return Err(Refusal::Text);
@@ -117,7 +134,7 @@ impl Pairs {
             return Err(Refusal::Key);
         };
         let start = self.bytes.len();
-        if self.len() >= MOST || start + key.len() > ROOM {
+        if self.links.len() >= MOST || start + key.len() > ROOM {
             return Err(Refusal::Room);
         }
         let link = Link {

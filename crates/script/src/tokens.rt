@@ -24,7 +24,9 @@ fn token_start(line: &[u8], from: usize) -> Option<usize>
     ensures value { result ≡ piece_start from (drop from line.now) }
     ensures within { IfSome result (λ i. i < length line.now) }
 {
-    let blanks = line.iter().skip(from).position(|b| !is_blank(*b))?;
+    // No `skip`: it would step over each byte before `from`, token after token.
+    let rest = line.get(from..)?;
+    let blanks = rest.iter().position(|b| !is_blank(*b))?;
     Some(from + blanks)
 }
 
@@ -73,6 +75,7 @@ pub fn tokens(heap: Global, line: &[u8]) -> Result<Vec<Token>, AllocError>
 #[cfg(test)]
 mod tests {
     use super::*;
+    use lines::Lines;
     use std::test::Fail;
 
     // Whether the next token from `from` on stands at `start` and has `len` bytes.
@@ -105,6 +108,13 @@ mod tests {
     fn lists_all(rt: HostRuntime) -> Result<(), Fail> {
         let all = tokens(rt.alloc(), b"a  \"b c\" d\"e f\"g\r")?;
         assert_eq!(rt; all.len(), 3);
+        Ok(())
+    }
+
+    #[test]
+    fn lines_are_cloned(rt: HostRuntime) -> Result<(), Fail> {
+        let mut left = Lines::of(b"a\nb").clone()?;
+        assert!(rt; matches!(left.next(), Some(b"a")));
         Ok(())
     }
 }

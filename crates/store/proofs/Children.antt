@@ -49,7 +49,7 @@ rise_numbered [] = refl
 rise_numbered (i ∷ []) = refl
 rise_numbered (i ∷ j ∷ is) = sym (lt-leb (length (i ∷ j ∷ is)) 1 (omega arith))
 
-short_numbered : (is : List ℕ) → every key_short (numbered is) ≡ true
+pub short_numbered : (is : List ℕ) → every key_short (numbered is) ≡ true
 short_numbered [] = refl
 short_numbered (i ∷ is) = short_numbered is
 

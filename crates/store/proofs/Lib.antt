@@ -14,3 +14,4 @@ pub mod Folds
 pub mod Stored
 pub mod Entries
 pub mod Asked
+pub mod Laws

@@ -46,7 +46,7 @@ module _ (nodes nodes' : List Node) (links links' ls : List Link) (s s' : Pool) 
     (ms : x.mark.spans ≡ length s.spans)
     (me : x.mark.elems ≡ length s.elems)
   where
-    abbrev node : NodeM
+    abbrev pub node : NodeM
     node = record { kind = kind_code x.kind; leaf = l; children = cs; place = place_of x.place }
 
     abbrev et : s' ≡ plus s grows.0
@@ -59,7 +59,7 @@ module _ (nodes nodes' : List Node) (links links' ls : List Link) (s s' : Pool) 
         let c = length-append s.elems grows.0.elems in
         mark_from (plus s grows.0) x.mark (omega arith) (omega arith) (omega arith)
 
-    placed_model : model_of nodes' links' s' ≡ model_of nodes links s ++ node ∷ []
+    pub placed_model : model_of nodes' links' s' ≡ model_of nodes links s ++ node ∷ []
     placed_model =
         rw (en, el, et)
         (model_push nodes links s ls grows.0 x held lists (rw et at keys) (rw et at inside) first many marks

@@ -12,12 +12,15 @@ pub mod view;
 
 #[cfg(test)]
 mod tests {
+    use crate::branches::Branches;
     use crate::store::Store;
     use codes::kind::Kind;
     use leaves::leaf::{Leaf, boolean, nothing};
     use leaves::literal::Unknown;
     use leaves::text::Text;
+    use leaves::text_list::TextList;
     use pairs::pairs::Pairs;
+    use std::test::Fail;
     use terms::refusal::Refusal;
 
     // Adds a blank without a type, and says its number, or a number that no node has.
@@ -70,5 +73,18 @@ mod tests {
         assert!(rt; pairs.put(b"k", paid).is_ok());
         assert!(rt; matches!(store.record(&pairs, None), Ok(1)));
         assert!(rt; matches!(store.link(1, 0), Ok(Some((b"k", 0)))));
+    }
+
+    #[test]
+    fn iterators_are_cloned(rt: HostRuntime) -> Result<(), Fail> {
+        let mut pairs = Pairs::new(rt.alloc()).expect(&rt, "no memory");
+        assert!(rt; pairs.put(b"k", 7).is_ok());
+        let mut keyed = pairs.iter().clone()?;
+        assert!(rt; matches!(keyed.next(), Some((b"k", 7))));
+        let mut children = Branches::Plain(&[5]).into_iter().clone()?;
+        assert!(rt; matches!(children.next(), Some((b"", 5))));
+        let mut texts = TextList::Given(&[b"paid"]).iter().clone()?;
+        assert!(rt; matches!(texts.next(), Some(Text(b"paid"))));
+        Ok(())
     }
 }

@@ -40,11 +40,15 @@ closed_from b [] i j d e c h = absurd (omega arith)
 closed_from b (n ∷ ns) zero j d e c h = within_up b j n.children (omega arith) c.0
 closed_from b (n ∷ ns) (suc i) j d e c h = closed_from (suc b) ns i j d (omega arith) c.1 (omega arith)
 
+-- what a closed bank's node has for children are numbers below its own
+pub closed_at : (m : Bank) (i : ℕ) (d : NodeM) → Closed m → i < length m → Within i (get_or m i d).children
+closed_at m i d c h = closed_from 0 m i i d (omega arith) c h
+
 opened : (m : Bank) (i : ℕ) (d : NodeM) → Closed m → i < length m → shape_at m i ≡ shape_of (shapes m) (get_or m i d)
 opened m i d c h =
     let n = get_or m i d in
     rw zero-add at (table_at shape_of [] m i nothing d h)
-    ∙ ap (node n.kind n.leaf) (gather_take i (shapes m) n.children (closed_from 0 m i i d (omega arith) c h))
+    ∙ ap (node n.kind n.leaf) (gather_take i (shapes m) n.children (closed_at m i d c h))
 
 -- ---- well formed trees
 

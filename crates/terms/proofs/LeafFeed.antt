@@ -1,7 +1,7 @@
 -- The feeds of the leaves are prefix codes.
 use Rattle.std.proofs.Common.{◌≡◌, ℕ, ◌<◌, ◌≤◌, Bool, true, false, zero, suc, leb, ◌⊎◌, List, [], ◌∷◌, ◌++◌, length, is_some, IfSome, Some, None, Option, sym, refl, ap, ◌∙◌, arith, to_z-of_z, w64, SFits, to_z, of_z}
 use mir.Facts.{Fits-of_z}
-use Rattle.terms.specs.Terms.{NameS, LiteralS, ElemS, Leaf}
+use Rattle.terms.specs.Terms.{Text, NameS, LiteralS, TypeS, ElemS, Leaf}
 use Rattle.terms.specs.Orders.{name_parts, literal_side, elem_side, LeafSides, leaf_side}
 use Rattle.terms.specs.Kinds.{sort}
 use Rattle.terms.specs.Laws.{Apart}
@@ -77,6 +77,10 @@ pub types : Code TypeOk feed_type
 types = record { reads = type_reads }
 
 -- ---- a leaf of one sort
+
+-- an unknown's name, and its type if it has one
+abbrev UnknownOk : Text × Option TypeS → Type 0
+UnknownOk p = TextOk p.0 × IfSome p.1 TypeOk
 
 codes : (b : ℕ) → Code (λ c. c < b) (λ c. c ∷ [])
 codes b = narrower byte (λ c. c < b) (λ c h. tt)

@@ -15,6 +15,17 @@ pub record Placed {A : Type 0} (place : A → ℕ) (P : A → Type 0) (f : A →
 
 -- ---- lists alone
 
+-- two lists that are equal begin alike, and go on alike
+pub head_same : {A : Type 0} (x y : A) (r s : List A) → x ∷ r ≡ y ∷ s → x ≡ y
+head_same x y r s e = cc
+
+pub tail_same : {A : Type 0} (x y : A) (r s : List A) → x ∷ r ≡ y ∷ s → r ≡ s
+tail_same x y r s e = cc
+
+-- a part in front is read first
+pub regroup : (a b r a' b' s : List ℕ) → (a ++ b) ++ r ≡ (a' ++ b') ++ s → a ++ (b ++ r) ≡ a' ++ (b' ++ s)
+regroup a b r a' b' s e = simp append_assoc at e
+
 pub injective : {A : Type 0} {P : A → Type 0} {f : A → List ℕ} → Code P f → Injective P f
 injective c x y p q e = (c.reads x y p q [] [] (ap (λ l. l ++ []) e)).0
 
@@ -129,17 +140,21 @@ narrower c P ok = record { reads = λ x y p q. c.reads x y (ok x p) (ok y q) }
 
 -- ---- options: 0 for nothing, 1 and the value
 
-abbrev option_side : {A : Type 0} → Option A → Unit {0} ⊎ A
+abbrev pub option_side : {A : Type 0} → Option A → Unit {0} ⊎ A
 option_side None = inl tt
 option_side (Some x) = inr x
 
-abbrev side_option : {A : Type 0} → Unit {0} ⊎ A → Option A
+abbrev pub side_option : {A : Type 0} → Unit {0} ⊎ A → Option A
 side_option (inl u) = None
 side_option (inr x) = Some x
 
 option_back : {A : Type 0} (o : Option A) → side_option (option_side o) ≡ o
 option_back None = refl
 option_back (Some x) = refl
+
+-- a value that is fed bare, where something else says whether there is one
+pub maybe_code : {A : Type 0} {P : A → Type 0} {f : A → List ℕ} → Code P f → (g : Option A → List ℕ) → g None ≡ [] → ((x : A) → g (Some x) ≡ f x) → Placed (λ o. side_place (λ (x : A). 0) (option_side o)) (λ o. IfSome o P) g
+maybe_code {P} {f} c g none some = placed_through (side none_code (last_side c)) (λ o. IfSome o P) g option_side side_option option_back (λ o. refl) (elim [ None ↦ none | Some x ↦ some x ]) (elim [ None ↦ λ h. h | Some x ↦ λ h. h ])
 
 pub option_code : {A : Type 0} {P : A → Type 0} {f : A → List ℕ} → Code P f → Code (λ o. IfSome o P) (feed_option f)
 option_code {P} {f} c = through (tagged (side none_code (last_side c))) (λ o. IfSome o P) (feed_option f) option_side side_option option_back (elim [ None ↦ refl | Some x ↦ refl ]) (elim [ None ↦ λ h. h | Some x ↦ λ h. h ])

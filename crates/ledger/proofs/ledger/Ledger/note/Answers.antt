@@ -18,9 +18,9 @@ invariant_of-self-2 c =
     let old = length-map c.args.self.now.catalogue vec_items in
     let new = length-map c.put.new.self vec_items in
     elim c.match-put.branch [
-      | in-Ok-Kept w ↦ record { adds = grind (arith, read_is c, old, new, longer (texts_of c.args.self.now.catalogue) c.args.line.now (texts_of c.put.new.self)) }
-      | in-Ok-Repeated w ↦ let same = rw w.in-Ok-Repeated.field-0-is at w.in-Ok-Repeated.ensures.settles in record { adds = grind (arith, read_is c, old, new, ap length same.1) }
-      | in-Err-Text+in_ok-push-in-Err-Text w ↦ record { adds = grind (arith, read_is c, old, new, ap length w.in-Err-Text.ensures.settles, w.in_ok-push-in-Err-Text.ensures.len) }
+      | in-Ok-Kept w ↦ record { adds = grind (arith, read_is c, old, new, longer (texts_of c.args.self.now.catalogue) c.args.line.now (texts_of c.put.new.self)); ascends = c.put.ensures.ascend }
+      | in-Ok-Repeated w ↦ let same = rw w.in-Ok-Repeated.field-0-is at w.in-Ok-Repeated.ensures.settles in record { adds = grind (arith, read_is c, old, new, ap length same.1); ascends = c.put.ensures.ascend }
+      | in-Err-Text+in_ok-push-in-Err-Text w ↦ record { adds = grind (arith, read_is c, old, new, ap length w.in-Err-Text.ensures.settles, w.in_ok-push-in-Err-Text.ensures.len); ascends = c.put.ensures.ascend }
     ]
 
 pub returns : goal.returns
